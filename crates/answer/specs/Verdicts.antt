@@ -1,0 +1,40 @@
+-- Document 01, "Verdicts": an answer is four numbers, verdict, part, place and rule; unnamed ones are 0.
+-- This is the one place that gives the paper's numbers.
+use Prim.Native.Nat.{ℕ}
+use Rattle.answer.specs.declared.Numbers.{Numbers}
+use Rattle.answer.specs.declared.Answer.{Answer}
+use Rattle.answer.specs.declared.Answer.the-variants.{
+  Accepted,
+  Size,
+  Word,
+  Instruction,
+  Start,
+  Exec,
+  Extension,
+  Bus,
+  Label,
+  Stuck,
+  Room,
+  Open,
+  Itself,
+  Buffer,
+}
+
+abbrev four : ℕ → ℕ → ℕ → ℕ → Numbers
+four verdict part place rule = record { verdict = verdict; part = part; place = place; rule = rule }
+
+abbrev pub numbersOf : Answer → Numbers
+numbersOf Accepted = four 0 0 0 0
+numbersOf (Size part place) = four 1 part place 0
+numbersOf (Word part place) = four 2 part place 0
+numbersOf (Instruction place) = four 3 1 place 0
+numbersOf Start = four 4 0 0 0
+numbersOf (Exec row rule) = four 5 3 row rule
+numbersOf (Extension row rule) = four 6 4 row rule
+numbersOf (Bus part row) = four 7 part row 0
+numbersOf (Label place) = four 8 0 place 0
+numbersOf (Stuck row rule) = four 9 0 row rule
+numbersOf (Room row) = four 10 0 row 0
+numbersOf (Open row) = four 11 0 row 0
+numbersOf Itself = four 12 0 0 0
+numbersOf Buffer = four 13 0 0 0

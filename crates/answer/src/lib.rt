@@ -1,0 +1,62 @@
+// The answers of document 01, "Verdicts": an enum, and its four numbers.
+ghost use mathlib.Core.Path.{_≡_};
+ghost use Rattle.answer.specs.Verdicts.{numbersOf};
+
+// A case for each verdict, in the paper's order, with what the paper names in it.
+pub enum Answer {
+    Accepted,
+    Size { part: u32, place: u32 },
+    Word { part: u32, place: u32 },
+    Instruction { place: u32 },
+    Start,
+    Exec { row: u32, rule: u32 },
+    Extension { row: u32, rule: u32 },
+    Bus { part: u32, row: u32 },
+    Label { place: u32 },
+    Stuck { row: u32, rule: u32 },
+    Room { row: u32 },
+    Open { row: u32 },
+    Itself,
+    Buffer,
+}
+
+// An answer as the paper counts it. What a verdict does not name is 0.
+pub struct Numbers {
+    pub verdict: u32,
+    pub part: u32,
+    pub place: u32,
+    pub rule: u32,
+}
+
+fn four(verdict: u32, part: u32, place: u32, rule: u32) -> Numbers
+    ensures { λ r. ⌜ r ≡ record { verdict = verdict; part = part; place = place; rule = rule } ⌝ }
+{
+    Numbers {
+        verdict,
+        part,
+        place,
+        rule,
+    }
+}
+
+// The four numbers of an answer.
+pub fn four_numbers(a: Answer) -> Numbers
+    ensures { λ r. ⌜ r ≡ numbersOf a ⌝ }
+{
+    match a {
+        Answer::Accepted => four(0, 0, 0, 0),
+        Answer::Size { part, place } => four(1, part, place, 0),
+        Answer::Word { part, place } => four(2, part, place, 0),
+        Answer::Instruction { place } => four(3, 1, place, 0),
+        Answer::Start => four(4, 0, 0, 0),
+        Answer::Exec { row, rule } => four(5, 3, row, rule),
+        Answer::Extension { row, rule } => four(6, 4, row, rule),
+        Answer::Bus { part, row } => four(7, part, row, 0),
+        Answer::Label { place } => four(8, 0, place, 0),
+        Answer::Stuck { row, rule } => four(9, 0, row, rule),
+        Answer::Room { row } => four(10, 0, row, 0),
+        Answer::Open { row } => four(11, 0, row, 0),
+        Answer::Itself => four(12, 0, 0, 0),
+        Answer::Buffer => four(13, 0, 0, 0),
+    }
+}

@@ -1,0 +1,58 @@
+-- Each word is what `word_at` promises; past the end each is 0.
+use mathlib.Core.Path.{_≡_, sym}
+use mathlib.Core.List.{List}
+use Prim.Native.Nat.{ℕ, _+_, _≤_}
+use lib.ListN.{length}
+use Rattle.word.specs.Bytes.{wordAt}
+use native.Mathlib.Omega.{arith}
+use Rattle.word.proofs.FourBytes.{past}
+use Rattle.form.specs.Instruction.{instructionAt}
+use borrow.Author.Needs.{needs}
+use Rattle.form.proofs.words.instruction_at.Statement.{statement}
+use Rattle.form.proofs.words.instruction_at.Tie as tie
+
+-- a word past the end is 0
+gone : (s : List ℕ) (at k : ℕ) → length s ≤ at → wordAt s (at + k) ≡ 0
+gone s at k h = sym (past s (at + k) (omega arith))
+
+returns : tie.Need-returns
+unfolding instructionAt
+returns c =
+    let s : List ℕ = c .before .before .args .s .now in
+    let at : ℕ = c .before .before .args .at in
+    let h : length s ≤ at = c .if1 .taken in
+    cc (past s at h, gone s at 4 h, gone s at 8 h, gone s at 12 h, gone s at 16 h, gone s at 20 h, gone s at 24 h, gone s at 28 h, gone s at 32 h, gone s at 36 h, gone s at 40 h, gone s at 44 h)
+
+returns-2 : tie.Need-returns-2
+unfolding instructionAt
+returns-2 c = cc
+
+pub instruction-at-spec : {M : Type 1} → statement M
+instruction-at-spec =
+    tie.close
+    (tie.spec
+    returns
+    (λ c κs. search needs)
+    (λ c. search needs)
+    (λ c κs. search needs)
+    (λ c. search needs)
+    (λ c κs. search needs)
+    (λ c. search needs)
+    (λ c κs. search needs)
+    (λ c. search needs)
+    (λ c κs. search needs)
+    (λ c. search needs)
+    (λ c κs. search needs)
+    (λ c. search needs)
+    (λ c κs. search needs)
+    (λ c. search needs)
+    (λ c κs. search needs)
+    (λ c. search needs)
+    (λ c κs. search needs)
+    (λ c. search needs)
+    (λ c κs. search needs)
+    (λ c. search needs)
+    (λ c κs. search needs)
+    (λ c. search needs)
+    (λ c κs. search needs)
+    returns-2)

@@ -1,0 +1,3 @@
+pub mod Data
+pub mod Instruction
+pub mod Form

@@ -1,0 +1,85 @@
+-- Digits and their values undo one another; a number's digits grow by its last one.
+use Prim.Native.Nat.{ℕ, suc, _+_, _-_, _*_, _/_, _%_, _<_, _≤_}
+use mathlib.Core.Bool.{cond}
+use mathlib.Core.List.{List, [], _∷_, _++_}
+use mathlib.Core.Path.{_≡_, ap}
+use native.Mathlib.Omega.{arith}
+use lib.Dec.{ltb}
+use borrow.Author.Tests.{lt-ltb, le-ltb}
+use Rattle.label.specs.Label.{hexDigit, hexDigits, decimal, digit}
+use Rattle.label.specs.Reader.{hexValue, decimalValue}
+use Rattle.label.proofs.Order.{by-order}
+
+pub hex-value : (d : ℕ) → d < 16 → hexValue (hexDigit d) ≡ d
+unfolding hexValue
+hex-value d h =
+    by-order d 10
+    (λ a. rw (lt-ltb d 10 a, le-ltb (48 + d) 48 (omega arith), lt-ltb (48 + d) 58 (omega arith)) (omega arith))
+    (λ a. rw (
+      le-ltb d 10 a,
+      le-ltb (87 + d) 48 (omega arith),
+      le-ltb (87 + d) 58 (omega arith),
+      le-ltb (87 + d) 97 (omega arith),
+      lt-ltb (87 + d) 103 (omega arith),
+    )
+    (omega arith))
+
+pub hex-digit : (b : ℕ) → hexValue b < 16 → hexDigit (hexValue b) ≡ b
+unfolding hexValue
+hex-digit b =
+    by-order b 48 (λ a. rw (lt-ltb b 48 a) (λ h. omega arith))
+    (λ a. by-order b 58
+    (λ c. rw (le-ltb b 48 a, lt-ltb b 58 c) (λ h. rw (lt-ltb (b - 48) 10 (omega arith)) (omega arith)))
+    (λ c. by-order b 97 (λ d. rw (le-ltb b 48 a, le-ltb b 58 c, lt-ltb b 97 d) (λ h. omega arith))
+    (λ d. by-order b 103
+    (λ e. rw (le-ltb b 48 a, le-ltb b 58 c, le-ltb b 97 d, lt-ltb b 103 e)
+    (λ h. rw (le-ltb (b - 87) 10 (omega arith)) (omega arith)))
+    (λ e. rw (le-ltb b 48 a, le-ltb b 58 c, le-ltb b 97 d, le-ltb b 103 e) (λ h. omega arith)))))
+
+pub digit-value : (d : ℕ) → d < 10 → decimalValue (digit d) ≡ d
+unfolding decimalValue
+digit-value d h = rw (le-ltb (48 + d) 48 (omega arith), lt-ltb (48 + d) 58 (omega arith)) (omega arith)
+
+pub value-digit : (b : ℕ) → decimalValue b < 10 → digit (decimalValue b) ≡ b
+unfolding decimalValue
+value-digit b =
+    by-order b 48 (λ a. rw (lt-ltb b 48 a) (λ h. omega arith))
+    (λ a. by-order b 58 (λ c. rw (le-ltb b 48 a, lt-ltb b 58 c) (λ h. omega arith))
+    (λ c. rw (le-ltb b 48 a, le-ltb b 58 c) (λ h. omega arith)))
+
+pub hex-more : (k x d : ℕ) → d < 16 → hexDigits (suc k) (16 * x + d) ≡ hexDigits k x ++ (hexDigit d ∷ [])
+unfolding hexDigits
+hex-more k x d h =
+    let q : (16 * x + d) / 16 ≡ x = omega arith in
+    let m : (16 * x + d) % 16 ≡ d = omega arith in
+    rw (q, m)
+
+-- the digits read so far: none of 0
+unfoldable pub soFar : ℕ → List ℕ
+soFar x = cond (ltb x 1) [] (decimal x)
+
+pub soFar-some : (x : ℕ) → 1 ≤ x → soFar x ≡ decimal x
+unfolding soFar
+soFar-some x h = rw (le-ltb x 1 h)
+
+pub two-digits : (x : ℕ) → 10 ≤ x → x < 100 → decimal x ≡ digit (x / 10) ∷ digit (x % 10) ∷ []
+unfolding decimal
+two-digits x l u = rw (le-ltb x 10 l, lt-ltb x 100 u)
+
+-- a number's decimal is that of its tens, then its last digit
+pub decimal-last : (y : ℕ) → 1 ≤ y → y < 125 → soFar y ≡ soFar (y / 10) ++ (digit (y % 10) ∷ [])
+unfolding soFar decimal
+decimal-last y l u =
+    by-order y 10
+    (λ a. rw (le-ltb y 1 l, lt-ltb y 10 a, lt-ltb (y / 10) 1 (omega arith)) (ap (λ (z : ℕ). digit z ∷ []) (omega arith)))
+    (λ a. by-order y 100
+    (λ b. rw (le-ltb y 1 l, le-ltb y 10 a, lt-ltb y 100 b, le-ltb (y / 10) 1 (omega arith), lt-ltb (y / 10) 10 (omega arith)))
+    (λ b. rw (
+      le-ltb y 1 l,
+      le-ltb y 10 a,
+      le-ltb y 100 b,
+      le-ltb (y / 10) 1 (omega arith),
+      le-ltb (y / 10) 10 (omega arith),
+      lt-ltb (y / 10) 100 (omega arith),
+    )
+    (ap (λ (z : ℕ). digit z ∷ digit (y / 10 % 10) ∷ digit (y % 10) ∷ []) (omega arith))))

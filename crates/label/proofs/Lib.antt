@@ -1,0 +1,17 @@
+pub mod Tests
+pub mod Order
+pub mod Moved
+pub mod Fits
+pub mod Leads
+pub mod Near
+pub mod Digits
+pub mod Places
+pub mod Flat
+pub mod Sound
+pub mod Range
+pub mod Complete
+pub mod Writing
+pub mod Label
+pub mod Follow
+pub mod Bytes
+pub mod Put

@@ -1,0 +1,24 @@
+-- `digit::value` meets its contract: each return has the tests that led there.
+use Rattle.label.specs.Reader.{decimalValue}
+use Rattle.label.proofs.Tests.{tests}
+use borrow.Author.Needs.{needs}
+use Rattle.label.proofs.digit.value.Statement.{statement}
+use Rattle.label.proofs.digit.value.Tie as tie
+
+returns : tie.Need-returns
+unfolding decimalValue
+returns c = search tests
+
+cast-result : tie.Need-cast-result
+cast-result c = search needs
+
+returns-2 : tie.Need-returns-2
+unfolding decimalValue
+returns-2 c = search tests
+
+returns-3 : tie.Need-returns-3
+unfolding decimalValue
+returns-3 c = search tests
+
+pub value-spec : {M : Type 1} → statement M
+value-spec = tie.close (tie.spec returns cast-result returns-2 returns-3)

@@ -1,0 +1,29 @@
+-- `reader::seed_digit` meets its contract: the digit is the one that `hex_value` gives.
+use Rattle.label.specs.Reader.{nextSeed}
+use Rattle.label.proofs.Tests.{tests}
+use borrow.Author.Needs.{needs}
+use Rattle.label.proofs.reader.seed_digit.Statement.{statement}
+use Rattle.label.proofs.reader.seed_digit.Tie as tie
+
+hex-value-requires : tie.Need-hex-value-requires
+hex-value-requires c κs = search needs
+
+add-t5 : tie.Need-add-t5
+add-t5 c = search needs
+
+mul-t6 : tie.Need-mul-t6
+mul-t6 c = search needs
+
+add-t7 : tie.Need-add-t7
+add-t7 c = search needs
+
+returns : tie.Need-returns
+unfolding nextSeed
+returns c = rw (← c .before .before .before .hex-value .ensures .0) (search tests)
+
+returns-2 : tie.Need-returns-2
+unfolding nextSeed
+returns-2 c = rw (← c .before .hex-value .ensures .0) (search tests)
+
+pub seed-digit-spec : {M : Type 1} → statement M
+seed-digit-spec = tie.close (tie.spec hex-value-requires add-t5 mul-t6 add-t7 returns returns-2)

@@ -1,0 +1,5 @@
+pub mod Label
+pub mod Reading
+pub mod Writing
+pub mod Reader
+pub mod Writer

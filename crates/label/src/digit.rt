@@ -1,0 +1,48 @@
+// Digits and their values, and the bytes that every label has: reader and writer share them.
+ghost use mathlib.Core.Path.{_≡_};
+ghost use Prim.Native.Nat.{_≤_};
+ghost use lib.ListN.{getD};
+ghost use Rattle.label.specs.Reader.{hexValue, decimalValue, form};
+
+// The value of a lower-case hex digit, 16 for any other byte.
+pub fn hex_value(byte: u8) -> u64
+    ensures { λ r. ⌜ (r ≡ hexValue byte) × (r ≤ 16) ⌝ }
+{
+    if byte < 48 {
+        return 16;
+    }
+    if byte < 58 {
+        return (byte - 48) as u64;
+    }
+    if byte < 97 {
+        return 16;
+    }
+    if byte < 103 {
+        return (byte - 87) as u64;
+    }
+    16
+}
+
+// The value of a decimal digit, 10 for any other byte.
+pub fn value(byte: u8) -> u32
+    ensures { λ r. ⌜ (r ≡ decimalValue byte) × (r ≤ 10) ⌝ }
+{
+    if byte < 48 {
+        return 10;
+    }
+    if byte < 58 {
+        return (byte - 48) as u32;
+    }
+    10
+}
+
+// The byte at a place of a label up to its n, with a dot for a digit; 0 past its end.
+pub fn form(at: u32) -> u8
+    ensures { λ r. ⌜ r ≡ getD form at 0 ⌝ }
+{
+    let form = b"v=1\nseed=................\nm=..\nn=";
+    if at < 33 {
+        return form[at as usize];
+    }
+    0
+}

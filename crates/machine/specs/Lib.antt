@@ -1,0 +1,4 @@
+pub mod Machine
+pub mod Extension
+pub mod Step
+pub mod Run

@@ -1,0 +1,1 @@
+// The machine without flags: definitions alone, in specs/.

@@ -1,0 +1,4 @@
+pub mod Word
+pub mod Prime
+pub mod Bytes
+pub mod Element

@@ -1,0 +1,52 @@
+// Extension elements: five words by value, lowest power first.
+use crate::fold::product;
+ghost use mathlib.Core.Path.{_≡_};
+ghost use Rattle.word.specs.Element.{_+ₑ_, _-ₑ_, _·ₑ_, peqₑ};
+
+pub fn sum(a: [u32; 5], b: [u32; 5]) -> [u32; 5]
+    ensures { λ r. ⌜ r ≡ a +ₑ b ⌝ }
+{
+    [
+        crate::add(a[0], b[0]),
+        crate::add(a[1], b[1]),
+        crate::add(a[2], b[2]),
+        crate::add(a[3], b[3]),
+        crate::add(a[4], b[4]),
+    ]
+}
+
+pub fn difference(a: [u32; 5], b: [u32; 5]) -> [u32; 5]
+    ensures { λ r. ⌜ r ≡ a -ₑ b ⌝ }
+{
+    [
+        crate::sub(a[0], b[0]),
+        crate::sub(a[1], b[1]),
+        crate::sub(a[2], b[2]),
+        crate::sub(a[3], b[3]),
+        crate::sub(a[4], b[4]),
+    ]
+}
+
+// A word times an element.
+pub fn scale(x: u32, a: [u32; 5]) -> [u32; 5]
+    ensures { λ r. ⌜ r ≡ x ·ₑ a ⌝ }
+{
+    [
+        crate::mul(x, a[0]),
+        crate::mul(x, a[1]),
+        crate::mul(x, a[2]),
+        crate::mul(x, a[3]),
+        crate::mul(x, a[4]),
+    ]
+}
+
+// peq: a·b + (1 - a)(1 - b)
+pub fn peq(a: [u32; 5], b: [u32; 5]) -> [u32; 5]
+    ensures { λ r. ⌜ r ≡ peqₑ a b ⌝ }
+{
+    let one: [u32; 5] = [1, 0, 0, 0, 0];
+    sum(
+        product(a, b),
+        product(difference(one, a), difference(one, b)),
+    )
+}

@@ -1,0 +1,49 @@
+// Words modulo p, and extension elements of five words.
+mod bytes;
+mod element;
+mod fold;
+
+pub use bytes::put_word;
+pub use bytes::word_at;
+pub use element::difference;
+pub use element::peq;
+pub use element::scale;
+pub use element::sum;
+pub use fold::product;
+ghost use mathlib.Core.Path.{_≡_};
+ghost use Prim.Native.Nat.{_<_, _%_};
+ghost use Rattle.word.specs.Word.{p, _+ₚ_, _-ₚ_, _*ₚ_};
+
+// 2^31 - 2^24 + 1
+pub const P: u64 = 2130706433;
+
+fn wide(x: u32) -> u64
+    ensures { λ r. ⌜ (r ≡ x) × (r < 4294967296) ⌝ }
+{
+    x as u64
+}
+
+fn reduced(x: u64) -> u32
+    ensures { λ r. ⌜ (r ≡ x % p) × (r < p) ⌝ }
+{
+    (x % P) as u32
+}
+
+pub fn add(x: u32, y: u32) -> u32
+    ensures { λ r. ⌜ r ≡ x +ₚ y ⌝ }
+{
+    reduced(wide(x) + wide(y))
+}
+
+// 3p is above every y, so the difference stays above 0.
+pub fn sub(x: u32, y: u32) -> u32
+    ensures { λ r. ⌜ r ≡ x -ₚ y ⌝ }
+{
+    reduced(wide(x) + 3 * P - wide(y))
+}
+
+pub fn mul(x: u32, y: u32) -> u32
+    ensures { λ r. ⌜ r ≡ x *ₚ y ⌝ }
+{
+    reduced(wide(x) * wide(y))
+}
