@@ -4,7 +4,7 @@ use Rattle.form.proofs.formed.Statement.{statement}
 use Rattle.form.proofs.formed.Tie as tie
 
 returns : tie.Need-returns
-returns c = cc
+returns c = rw (c .before .before .operand-of .ensures, c .before .operand-of2 .ensures, c .operand-of3 .ensures)
 
 pub formed-spec : {M : Type 1} → statement M
 formed-spec =

@@ -4,7 +4,17 @@ use Rattle.form.proofs.kinds.well_formed.Statement.{statement}
 use Rattle.form.proofs.kinds.well_formed.Tie as tie
 
 returns : tie.Need-returns
-returns c = cc
+returns c =
+    let c4 = c .before .before .before in
+    rw (
+      c4 .before .before .before .flags-fit .ensures,
+      c4 .before .before .is-add .ensures,
+      c4 .before .is-mul .ensures,
+      c4 .is-deref .ensures,
+      c .before .before .is-jump .ensures,
+      c .before .no-opcode .ensures,
+      c .is-data .ensures,
+    )
 
 pub well-formed-spec : {M : Type 1} → statement M
 well-formed-spec =

@@ -21,11 +21,28 @@ returns c =
     let s : List ℕ = c .before .before .args .s .now in
     let at : ℕ = c .before .before .args .at in
     let h : length s ≤ at = c .if1 .taken in
-    cc (past s at h, gone s at 4 h, gone s at 8 h, gone s at 12 h, gone s at 16 h, gone s at 20 h, gone s at 24 h, gone s at 28 h, gone s at 32 h, gone s at 36 h, gone s at 40 h, gone s at 44 h)
+    rw (← past s at h, gone s at 4 h, gone s at 8 h, gone s at 12 h, gone s at 16 h, gone s at 20 h, gone s at 24 h, gone s at 28 h, gone s at 32 h, gone s at 36 h, gone s at 40 h, gone s at 44 h)
 
 returns-2 : tie.Need-returns-2
 unfolding instructionAt
-returns-2 c = cc
+returns-2 c =
+    let c9 = c .before .before .before in
+    let c6 = c9 .before .before .before in
+    let c3 = c6 .before .before .before in
+    rw (
+      c3 .before .before .word-at .ensures,
+      c3 .before .word-at2 .ensures,
+      c3 .word-at3 .ensures,
+      c6 .before .before .word-at4 .ensures,
+      c6 .before .word-at5 .ensures,
+      c6 .word-at6 .ensures,
+      c9 .before .before .word-at7 .ensures,
+      c9 .before .word-at8 .ensures,
+      c9 .word-at9 .ensures,
+      c .before .before .word-at10 .ensures,
+      c .before .word-at11 .ensures,
+      c .word-at12 .ensures,
+    )
 
 pub instruction-at-spec : {M : Type 1} → statement M
 instruction-at-spec =

@@ -1,0 +1,12 @@
+pub mod Tests
+pub mod Words
+pub mod Meaning
+pub mod Read
+pub mod Written
+pub mod Lengths
+pub mod Fold
+pub mod Legal
+pub mod Group
+pub mod Pulled
+pub mod Tabled
+pub mod Padding

@@ -1,0 +1,11 @@
+pub mod FirstLaws
+pub mod RuleLaws
+pub mod Cases
+pub mod PartNumbers
+pub mod Stages
+pub mod BusLaws
+pub mod StageCases
+pub mod Justified
+pub mod StageLaws
+pub mod Only
+pub mod Exactly

@@ -1,0 +1,3 @@
+pub mod First
+pub mod Judged
+pub mod Refusal

@@ -1,0 +1,24 @@
+-- Each column is the word that its call read.
+use borrow.Author.Needs.{needs}
+use Rattle.rows.proofs.Reading.{exec-made}
+use Rattle.rows.proofs.execution.first_row.Statement.{statement}
+use Rattle.rows.proofs.execution.first_row.Tie as tie
+
+returns-2 : tie.Need-returns-2
+returns-2 c = exec-made _ _ (c .before .before .before .before .before .before .before .word-inside .ensures) (c .before .before .before .before .before .before .word-inside2 .ensures) (c .before .before .before .before .before .word-inside3 .ensures) (c .before .before .before .before .word-inside4 .ensures) (c .before .before .before .word-inside5 .ensures) (c .before .before .word-inside6 .ensures) (c .before .word-inside7 .ensures) (c .word-inside8 .ensures)
+
+pub first-row-spec : {M : Type 1} → statement M
+first-row-spec =
+    tie.close
+    (tie.spec
+    (λ c κs. search needs)
+    (λ c. search needs)
+    (λ c κs. search needs)
+    (λ c κs. search needs)
+    (λ c κs. search needs)
+    (λ c κs. search needs)
+    (λ c κs. search needs)
+    (λ c κs. search needs)
+    (λ c κs. search needs)
+    (λ c κs. search needs)
+    returns-2)

@@ -1,0 +1,66 @@
+// Execution rows.
+use crate::Exec;
+use crate::rest;
+use crate::word_inside;
+use word::put_word;
+use word::word_at;
+ghost use mathlib.Core.Path.{_≡_};
+ghost use Rattle.rows.specs.Rows.{execAt, execWords, putRow};
+
+// The first row, where bytes of it may be past the end.
+fn first_short(s: &[u8]) -> Exec
+    ensures { λ r. ⌜ r ≡ execAt (now (s .entry)) 0 ⌝ }
+{
+    Exec {
+        pc: word_at(s, 0),
+        fp: word_at(s, 4),
+        addrA: word_at(s, 8),
+        addrB: word_at(s, 12),
+        addrC: word_at(s, 16),
+        valueA: word_at(s, 20),
+        valueB: word_at(s, 24),
+        valueC: word_at(s, 28),
+    }
+}
+
+fn first_row(s: &[u8]) -> Exec
+    ensures { λ r. ⌜ r ≡ execAt (now (s .entry)) 0 ⌝ }
+{
+    if s.len() < 32 {
+        return first_short(s);
+    }
+    Exec {
+        pc: word_inside(s, 0),
+        fp: word_inside(s, 4),
+        addrA: word_inside(s, 8),
+        addrB: word_inside(s, 12),
+        addrC: word_inside(s, 16),
+        valueA: word_inside(s, 20),
+        valueB: word_inside(s, 24),
+        valueC: word_inside(s, 28),
+    }
+}
+
+// The execution row that starts at a byte; bytes past the end count as 0.
+pub fn exec_row(s: &[u8], at: usize) -> Exec
+    ensures { λ r. ⌜ r ≡ execAt (now (s .entry)) at ⌝ }
+{
+    first_row(rest(s, at))
+}
+
+// The row's 32 bytes; a buffer of another length is left as it is.
+pub fn put_exec(s: &mut [u8], x: Exec)
+    ensures { λ _. ⌜ now (s .exit) ≡ putRow (now (s .entry)) 32 (execWords x) ⌝ }
+{
+    if s.len() != 32 {
+        return;
+    }
+    put_word(s, 0, x.pc);
+    put_word(s, 4, x.fp);
+    put_word(s, 8, x.addrA);
+    put_word(s, 12, x.addrB);
+    put_word(s, 16, x.addrC);
+    put_word(s, 20, x.valueA);
+    put_word(s, 24, x.valueB);
+    put_word(s, 28, x.valueC);
+}

@@ -1,0 +1,121 @@
+// Extension rows.
+use crate::Ext;
+use crate::rest;
+use crate::word_inside;
+use word::put_word;
+use word::word_at;
+ghost use mathlib.Core.Path.{_≡_};
+ghost use Prim.Native.Nat.{_+_, _≤_, _<_, _^_};
+ghost use lib.ListN.{length, getD};
+ghost use Rattle.word.specs.Bytes.{withWord};
+ghost use Rattle.rows.specs.Rows.{fiveAt, extAt, extWords, putRow};
+
+fn five_short(s: &[u8], at: usize) -> [u32; 5]
+    requires { ⌜ at + 16 < 2 ^ 64 ⌝ }
+    ensures { λ r. ⌜ r ≡ fiveAt (now (s .entry)) at ⌝ }
+{
+    [
+        word_at(s, at),
+        word_at(s, at + 4),
+        word_at(s, at + 8),
+        word_at(s, at + 12),
+        word_at(s, at + 16),
+    ]
+}
+
+// The first row, where bytes of it may be past the end.
+fn first_short(s: &[u8]) -> Ext
+    ensures { λ r. ⌜ r ≡ extAt (now (s .entry)) 0 ⌝ }
+{
+    Ext {
+        start: word_at(s, 0),
+        add: word_at(s, 4),
+        mul: word_at(s, 8),
+        peq: word_at(s, 12),
+        len: word_at(s, 16),
+        idxA: word_at(s, 20),
+        idxB: word_at(s, 24),
+        idxR: word_at(s, 28),
+        be: word_at(s, 32),
+        base: word_at(s, 36),
+        vA: five_short(s, 40),
+        vB: five_short(s, 60),
+        comp: five_short(s, 80),
+        res: five_short(s, 100),
+    }
+}
+
+fn five_inside(s: &[u8], at: usize) -> [u32; 5]
+    requires { ⌜ at + 20 ≤ length (now s) ⌝ }
+    ensures { λ r. ⌜ r ≡ fiveAt (now (s .entry)) at ⌝ }
+{
+    [
+        word_inside(s, at),
+        word_inside(s, at + 4),
+        word_inside(s, at + 8),
+        word_inside(s, at + 12),
+        word_inside(s, at + 16),
+    ]
+}
+
+fn first_row(s: &[u8]) -> Ext
+    ensures { λ r. ⌜ r ≡ extAt (now (s .entry)) 0 ⌝ }
+{
+    if s.len() < 120 {
+        return first_short(s);
+    }
+    Ext {
+        start: word_inside(s, 0),
+        add: word_inside(s, 4),
+        mul: word_inside(s, 8),
+        peq: word_inside(s, 12),
+        len: word_inside(s, 16),
+        idxA: word_inside(s, 20),
+        idxB: word_inside(s, 24),
+        idxR: word_inside(s, 28),
+        be: word_inside(s, 32),
+        base: word_inside(s, 36),
+        vA: five_inside(s, 40),
+        vB: five_inside(s, 60),
+        comp: five_inside(s, 80),
+        res: five_inside(s, 100),
+    }
+}
+
+// The extension row that starts at a byte; bytes past the end count as 0.
+pub fn ext_row(s: &[u8], at: usize) -> Ext
+    ensures { λ r. ⌜ r ≡ extAt (now (s .entry)) at ⌝ }
+{
+    first_row(rest(s, at))
+}
+
+// Five words from a byte on.
+fn put_five(s: &mut [u8], at: usize, a: [u32; 5])
+    requires { ⌜ at + 16 < 2 ^ 64 ⌝ }
+    ensures { λ _. ⌜ now (s .exit) ≡ withWord (withWord (withWord (withWord (withWord (now (s .entry)) at (getD a 0 0)) (at + 4) (getD a 1 0)) (at + 8) (getD a 2 0)) (at + 12) (getD a 3 0)) (at + 16) (getD a 4 0) ⌝ }
+{
+    put_word(s, at, a[0]);
+    put_word(s, at + 4, a[1]);
+    put_word(s, at + 8, a[2]);
+    put_word(s, at + 12, a[3]);
+    put_word(s, at + 16, a[4]);
+}
+
+// The row's 120 bytes; a buffer of another length is left as it is.
+pub fn put_ext(s: &mut [u8], x: Ext)
+    ensures { λ _. ⌜ now (s .exit) ≡ putRow (now (s .entry)) 120 (extWords x) ⌝ }
+{
+    if s.len() != 120 {
+        return;
+    }
+    let vA = x.vA;
+    let vB = x.vB;
+    let comp = x.comp;
+    let res = x.res;
+    put_five(s, 0, [x.start, x.add, x.mul, x.peq, x.len]);
+    put_five(s, 20, [x.idxA, x.idxB, x.idxR, x.be, x.base]);
+    put_five(s, 40, vA);
+    put_five(s, 60, vB);
+    put_five(s, 80, comp);
+    put_five(s, 100, res);
+}

@@ -1,0 +1,6 @@
+pub mod Given
+pub mod Execution
+pub mod Extension
+pub mod Bus
+pub mod Sizes
+pub mod Satisfies

@@ -1,0 +1,66 @@
+-- Document 01, "Layouts"; draft 0.6.0, 2.2 and 3.1: the lengths that the four parts may have, and what their bytes are as numbered words.
+use Prim.Native.Nat.{ℕ, zero, suc, _*_, _/_, _%_, _^_}
+use mathlib.Core.Bool.{Bool, true, false, _&&_, _||_}
+use mathlib.Core.List.{List}
+use lib.ListN.{length}
+use lib.Dec.{leb, eqb}
+use Rattle.word.specs.Bytes.{wordAt}
+use Rattle.form.specs.Instruction.{instructionAt}
+use Rattle.rows.specs.Rows.{execAt, extAt}
+use Rattle.rules.specs.Given.{Given, Tables}
+
+-- what the judge is handed, as bytes, and the start
+pub record Parts : Type 0 where
+  pub program : List ℕ
+  pub memory : List ℕ
+  pub exec : List ℕ
+  pub ext : List ℕ
+  pub pc : ℕ
+  pub fp : ℕ
+
+-- n is x, doubled at most k times
+abbrev pub power : ℕ → ℕ → ℕ → Bool
+power n x zero = eqb n x
+power n x (suc k) = eqb n x || power n (2 * x) k
+
+-- units of so many bytes, their number a power of two: 2^8, doubled at most so many times
+abbrev pub powerOf : ℕ → ℕ → ℕ → Bool
+powerOf bytes unit more = eqb (bytes % unit) 0 && power (bytes / unit) 256 more
+
+-- part 1: 1 to 2^20 instructions of 48 bytes
+abbrev pub programFits : ℕ → Bool
+programFits bytes = eqb (bytes % 48) 0 && leb 1 (bytes / 48) && leb (bytes / 48) (2 ^ 20)
+
+-- part 2: 2^m words, m from 8 to 29
+abbrev pub memoryFits : ℕ → Bool
+memoryFits bytes = powerOf bytes 4 21
+
+-- part 3: H rows of 32 bytes, H from 2^8 to 2^25
+abbrev pub execFits : ℕ → Bool
+execFits bytes = powerOf bytes 32 17
+
+-- part 4: K rows of 120 bytes, K from 2^8 to 2^20
+abbrev pub extFits : ℕ → Bool
+extFits bytes = powerOf bytes 120 12
+
+-- the words of a part, numbered
+abbrev pub wordOf : List ℕ → ℕ → ℕ
+wordOf bytes k = wordAt bytes (4 * k)
+
+abbrev pub givenOf : Parts → Given
+givenOf q =
+    record {
+      count = length (q .program) / 48;
+      instruction = λ i. instructionAt (q .program) (48 * i);
+      size = length (q .memory) / 4;
+      cell = wordOf (q .memory);
+    }
+
+abbrev pub tablesOf : Parts → Tables
+tablesOf q =
+    record {
+      height = length (q .exec) / 32;
+      exec = λ r. execAt (q .exec) (32 * r);
+      extHeight = length (q .ext) / 120;
+      ext = λ r. extAt (q .ext) (120 * r);
+    }

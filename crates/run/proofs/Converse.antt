@@ -1,0 +1,56 @@
+-- Demand 3, converse: each legal run that stays, of a permitted height and with one spare extension row, is written as tables that are accepted.
+-- Assumes nothing.
+use mathlib.Core.Path.{_≡_, refl}
+use Prim.Native.Nat.{ℕ, _*_, _≤_}
+use native.Mathlib.Omega.{arith}
+use mathlib.Core.List.{[]}
+use lib.ListN.{length}
+use Rattle.answer.specs.declared.Answer.the-variants.{Accepted}
+use Rattle.machine.specs.Machine.{State}
+use Rattle.judged.specs.Judged.{judgeOf}
+use Rattle.judged.proofs.Exactly.{satisfies-accepted}
+use Rattle.written.specs.Setting.{Writable, TabledRun}
+use Rattle.written.proofs.Runs.{own-writable}
+use Rattle.written.proofs.Satisfied.{satisfies}
+use Rattle.run.specs.Runs.{Input, Permitted, LegalRun, Spare, withTables, given, start, pairOf}
+use Rattle.run.proofs.Lengths.{whole}
+use Rattle.run.proofs.Words.{fit-of}
+
+module _ (i : Input) (permitted : Permitted i) (height extHeight : ℕ) (state : ℕ → State) (legal : LegalRun i height state)
+    (spare : Spare i height extHeight state) where
+  cells : 256 ≤ given i .size
+  cells = whole (length (i .memory)) 4 21 (permitted .memory-size) .number .least
+
+  rows : 1 ≤ height
+  rows =
+      let h = whole (32 * height) 32 17 (legal .permitted) .number .least in
+      omega arith
+
+  writable : Writable (given i) (start i) height extHeight state
+  writable =
+      record {
+        fit =
+            fit-of (withTables i [] []) (permitted .program-size) (permitted .memory-size) (permitted .program-words) (permitted .memory-words)
+            (permitted .instructions);
+        five = omega (arith, cells);
+        frame = permitted .fp-word;
+        some = rows;
+        run = legal .run;
+        room = spare .room
+      }
+
+  pub converse : judgeOf (pairOf i height extHeight) ≡ Accepted
+  converse =
+      satisfies-accepted (pairOf i height extHeight)
+      (satisfies
+      (record {
+        program-size = permitted .program-size;
+        memory-size = permitted .memory-size;
+        exec-size = legal .permitted;
+        ext-size = spare .permitted;
+        program-words = permitted .program-words;
+        memory-words = permitted .memory-words;
+        writable = own-writable writable;
+        exec = refl;
+        ext = refl
+      }))

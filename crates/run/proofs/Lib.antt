@@ -1,0 +1,7 @@
+pub mod Lengths
+pub mod Words
+pub mod Memory
+pub mod Sound
+pub mod Agree
+pub mod Converse
+pub mod Together

@@ -1,0 +1,117 @@
+-- A tuple that an execution row pushes is pulled by a row of the extension table, so the memory holds what an extension step asks.
+-- Assumes nothing.
+use mathlib.Core.Path.{_≡_, refl, _∙_, ap, subst₃}
+use mathlib.Core.Bool.{Bool, true, false, _&&_}
+use Prim.Native.Nat.{ℕ, zero, suc, _+_, _≤_, _<_}
+use native.Mathlib.Omega.{arith}
+use lib.Dec.{T, eqb, eqb→eq}
+use borrow.Author.Tests.{eqb-true, eqb-false, eq-eqb}
+use Rattle.form.specs.declared.Form.{Form}
+use Rattle.form.specs.declared.Op.{Op}
+use Rattle.form.specs.declared.Kind.{Kind}
+use Rattle.form.specs.declared.Kind.the-variants.{Add, Mul, Deref, Jump, Extension}
+use Rattle.machine.specs.Machine.{Machine, State, value}
+use Rattle.tables.specs.Rows.{formAt}
+use Rattle.rules.specs.Given.{Given, Tables, either}
+use Rattle.rules.specs.Bus.{Tuple, sameTuple, pushed, pushes, pulled, pulls, total, pushedTo, pulledTo, instructionOf}
+use Rattle.steps.specs.Setting.{machineOf, stateOf, ExtensionHolds, MemoryHolds, OneCall, PushesBy, Pushes, call}
+use Rattle.groups.proofs.Lengths.{ExtTable}
+use Rattle.groups.proofs.Legal.{Legal}
+use Rattle.groups.proofs.Pulled.{pulled-legal}
+
+-- a sum is at least each of its terms
+at-least : (f : ℕ → ℕ) (n r : ℕ) → r < n → f r ≤ total f n
+at-least f zero r h = absurd (omega arith)
+at-least f (suc n) r h = go (eqb r n) refl (at-least f n r)
+  where
+    go : (b : Bool) → eqb r n ≡ b → (r < n → f r ≤ total f n) → f r ≤ total f n + f n
+    go true e earlier = omega (arith, ap f (eqb-true r n e))
+    go false e earlier =
+        let other = eqb-false r n e in
+        let before : r < n = omega arith in
+        omega (arith, earlier before)
+
+-- a sum that isn't 0 has a term that isn't
+pub record Term (f : ℕ → ℕ) (n : ℕ) : Type 0 where
+  pub at : ℕ
+  pub below : at < n
+  pub counts : f at ≡ 0 → ⊥
+
+some-term : (f : ℕ → ℕ) (n : ℕ) → 1 ≤ total f n → Term f n
+some-term f zero h = absurd (omega arith)
+some-term f (suc n) h = go (eqb (f n) 0) refl (some-term f n)
+  where
+    go : (b : Bool) → eqb (f n) 0 ≡ b → (1 ≤ total f n → Term f n) → Term f (suc n)
+    go true e earlier =
+        let t = earlier (omega (arith, eqb-true (f n) 0 e)) in
+        record { at = t .at; below = omega (arith, t .below); counts = t .counts }
+    go false e earlier = record { at = n; below = omega arith; counts = eqb-false (f n) 0 e }
+
+both : (a b : Bool) → T (a && b) → T a × T b
+both true b t = (tt, t)
+both false b t = absurd t
+
+same-itself : (σ : Tuple) → sameTuple σ σ ≡ true
+same-itself σ = rw (eq-eqb (σ .aux) (σ .aux) refl, eq-eqb (σ .left) (σ .left) refl, eq-eqb (σ .right) (σ .right) refl, eq-eqb (σ .out) (σ .out) refl)
+
+-- a row that counts for a tuple: its own tuple is that one
+pub record Pulling (x : Tuple) (σ : Tuple) (n : ℕ) : Type 0 where
+  pub aux : x .aux ≡ σ .aux
+  pub left : x .left ≡ σ .left
+  pub right : x .right ≡ σ .right
+  pub out : x .out ≡ σ .out
+  pub counts : n ≡ 0 → ⊥
+
+pulling : (x σ : Tuple) (n : ℕ) → (either (sameTuple x σ) n 0 ≡ 0 → ⊥) → Pulling x σ n
+pulling x σ n some = go (sameTuple x σ) refl some
+  where
+    go : (b : Bool) → sameTuple x σ ≡ b → (either b n 0 ≡ 0 → ⊥) → Pulling x σ n
+    go true e counts =
+        let abc = both (eqb (x .aux) (σ .aux) && eqb (x .left) (σ .left) && eqb (x .right) (σ .right)) (eqb (x .out) (σ .out)) (rw e tt) in
+        let ab = both (eqb (x .aux) (σ .aux) && eqb (x .left) (σ .left)) (eqb (x .right) (σ .right)) (abc .0) in
+        let a = both (eqb (x .aux) (σ .aux)) (eqb (x .left) (σ .left)) (ab .0) in
+        record {
+          aux = eqb→eq _ _ (a .0);
+          left = eqb→eq _ _ (a .1);
+          right = eqb→eq _ _ (ab .1);
+          out = eqb→eq _ _ (abc .1);
+          counts = counts
+        }
+    go false e counts = absurd (counts refl)
+
+-- legal at equal addresses
+moved : (g : Given) (op : Op) (be : Bool) (n : ℕ) {a a′ b b′ c c′ : ℕ} → a ≡ a′ → b ≡ b′ → c ≡ c′ → Legal g op be n a b c → Legal g op be n a′ b′ c′
+moved g op be n ea eb ec l = subst₃ (Legal g op be n) ea eb ec l
+
+module _ (g : Given) (t : Tables) (table : ExtTable g (t .extHeight) (t .ext))
+    (bus : (σ : Tuple) → pushedTo g t σ (t .height) ≡ pulledTo t σ (t .extHeight))
+    (r : ℕ) (below : r < t .height) where
+  -- the row's own tuple is pushed, so it is pulled
+  pushed-once : pushes (instructionOf g t r) ≡ 1 → 1 ≤ pulledTo t (pushed (instructionOf g t r) (t .exec r)) (t .extHeight)
+  pushed-once once =
+      let σ = pushed (instructionOf g t r) (t .exec r) in
+      let term = at-least (λ k. either (sameTuple (pushed (instructionOf g t k) (t .exec k)) σ) (pushes (instructionOf g t k)) 0) (t .height) r below in
+      omega (arith, bus σ, once, rw (same-itself σ) at term)
+
+  pulled-by : (op : Op) (be : Bool) (n : ℕ) (f : Form) → OneCall (machineOf g) f (instructionOf g t r) (t .exec r) op be n
+      → (let m = machineOf g in let s = stateOf (t .exec r) in Legal g op be n (value m s (f .a)) (value m s (f .b)) (value m s (f .c)))
+  pulled-by op be n f c =
+      let σ = pushed (instructionOf g t r) (t .exec r) in
+      let k = some-term (λ j. either (sameTuple (pulled (t .ext j)) σ) (pulls (t .ext j)) 0) (t .extHeight) (pushed-once (c .once)) in
+      let p = pulling (pulled (t .ext (k .at))) σ (pulls (t .ext (k .at))) (k .counts) in
+      let e = c .tuple in
+      moved g op be n (p .left ∙ ap (λ (τ : Tuple). τ .left) e) (p .right ∙ ap (λ (τ : Tuple). τ .right) e) (p .out ∙ ap (λ (τ : Tuple). τ .out) e)
+      (pulled-legal table op be n (k .at) (k .below) (p .aux ∙ ap (λ (τ : Tuple). τ .aux) e) (p .counts))
+
+  holds-by : (f : Form) (kind : Kind) → PushesBy (machineOf g) f (instructionOf g t r) (t .exec r) kind
+      → (let m = machineOf g in let s = stateOf (t .exec r) in ExtensionHolds m kind (value m s (f .a)) (value m s (f .b)) (value m s (f .c)))
+  holds-by f Add c = tt
+  holds-by f Mul c = tt
+  holds-by f Deref c = tt
+  holds-by f Jump c = tt
+  holds-by f (Extension op be n) c = let l = pulled-by op be n f c in (l .exist, l .same)
+
+  pub memory-holds : Pushes g (t .exec r) → MemoryHolds (machineOf g) (stateOf (t .exec r))
+  memory-holds c =
+      let f = formAt (machineOf g) (stateOf (t .exec r)) in
+      holds-by f (f .kind) c

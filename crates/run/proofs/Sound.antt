@@ -1,0 +1,65 @@
+-- Demand 3, sound: where the constraints hold, every execution row is a legal step of the machine to the next row, row 0 is the start, and the
+-- last row stays where it is.
+-- Assumes nothing.
+use mathlib.Core.Path.{_≡_, ap}
+use Prim.Native.Nat.{ℕ, suc, _+_, _-_, _<_, _≤_}
+use native.Mathlib.Numerals.{add-one}
+use native.Mathlib.Omega.{arith}
+use borrow.Author.Tests.{lt-ltb, le-ltb}
+use Rattle.answer.specs.declared.Answer.the-variants.{Accepted}
+use Rattle.machine.specs.Machine.{State}
+use Rattle.machine.specs.Step.{step, goes}
+use Rattle.machine.specs.Run.{StayingRun}
+use Rattle.rules.specs.Given.{next}
+use Rattle.rules.specs.Sizes.{Parts, givenOf, tablesOf}
+use Rattle.rules.specs.Satisfies.{Satisfies}
+use Rattle.judged.specs.Judged.{judgeOf}
+use Rattle.judged.proofs.Exactly.{accepted-satisfies}
+use Rattle.steps.specs.Setting.{machineOf, stateOf, ExecWords}
+use Rattle.steps.proofs.Legal.{same-state}
+use Rattle.steps.proofs.Sound.{row-steps, row-pushes}
+use Rattle.run.proofs.Words.{exec-words, fit, ext-table, some-rows}
+use Rattle.run.proofs.Memory.{memory-holds}
+
+-- the start that is handed in, and the state of a row
+abbrev pub startOf : Parts → State
+startOf q = record { pc = q .pc; fp = q .fp }
+
+abbrev pub rowState : Parts → ℕ → State
+rowState q r = stateOf (tablesOf q .exec r)
+
+abbrev pub lastRow : Parts → ℕ
+lastRow q = tablesOf q .height - 1
+
+inner : (n r : ℕ) → r + 1 < n → next n r ≡ r + 1
+inner n r h = rw (lt-ltb (r + 1) n h)
+
+last : (n r : ℕ) → n ≤ r + 1 → next n r ≡ r
+last n r h = rw (le-ltb (r + 1) n h)
+
+module _ (q : Parts) (s : Satisfies q) where
+  words : (r : ℕ) → r < tablesOf q .height → ExecWords (tablesOf q .exec r)
+  words = exec-words (q .exec) (s .exec-words)
+
+  steps-to : (r n : ℕ) → r < tablesOf q .height → n < tablesOf q .height → next (tablesOf q .height) r ≡ n
+      → step (machineOf (givenOf q)) (rowState q r) ≡ goes (rowState q n)
+  steps-to r n hr hn e =
+      let t = tablesOf q in
+      let rules = rw e at (s .constraints .execution r hr) in
+      let pushes = row-pushes (givenOf q) (fit q s) (t .exec r) (t .exec n) (words r hr) (words n hn) rules in
+      row-steps (givenOf q) (fit q s) (t .exec r) (t .exec n) (words r hr) (words n hn) rules
+      (memory-holds (givenOf q) t (ext-table q s) (s .constraints .bus) r hr pushes)
+
+  -- tables that satisfy the constraints are a run that stays
+  pub satisfied-run : StayingRun (machineOf (givenOf q)) (startOf q) (lastRow q) (rowState q)
+  satisfied-run =
+      let some = some-rows q s in
+      record {
+        begins = same-state (s .start-pc) (s .start-fp);
+        steps = λ r h. rw (← add-one r) (steps-to r (r + 1) (omega arith) (omega arith) (inner (tablesOf q .height) r (omega arith)));
+        stays = steps-to (lastRow q) (lastRow q) (omega arith) (omega arith) (last (tablesOf q .height) (lastRow q) (omega arith))
+      }
+
+-- an accepted table is one run
+pub sound : (q : Parts) → judgeOf q ≡ Accepted → StayingRun (machineOf (givenOf q)) (startOf q) (lastRow q) (rowState q)
+sound q e = satisfied-run q (accepted-satisfies q e)

@@ -1,0 +1,13 @@
+pub mod Tests
+pub mod Words
+pub mod Legal
+pub mod Rules
+pub mod Operands
+pub mod Next
+pub mod Codes
+pub mod Meaning
+pub mod Read
+pub mod Written
+pub mod Pushed
+pub mod Sound
+pub mod Tabled

@@ -1,0 +1,1 @@
+// The tables of a run: definitions alone, in specs/.

@@ -1,0 +1,11 @@
+pub mod Totals
+pub mod Places
+pub mod Steps
+pub mod Runs
+pub mod Groups
+pub mod Bus
+pub mod Written
+pub mod Words
+pub mod Bytes
+pub mod Same
+pub mod Satisfied
