@@ -36,7 +36,7 @@ module _ (i : Input) (permitted : Permitted i) (height extHeight : ℕ) (state :
         frame = permitted .fp-word;
         some = rows;
         run = legal .run;
-        room = spare .room
+        room = spare .room;
       }
 
   pub converse : judgeOf (pairOf i height extHeight) ≡ Accepted
@@ -52,5 +52,5 @@ module _ (i : Input) (permitted : Permitted i) (height extHeight : ℕ) (state :
         memory-words = permitted .memory-words;
         writable = own-writable writable;
         exec = refl;
-        ext = refl
+        ext = refl;
       }))

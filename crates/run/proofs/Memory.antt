@@ -75,7 +75,7 @@ pulling x σ n some = go (sameTuple x σ) refl some
           left = eqb→eq _ _ (a .1);
           right = eqb→eq _ _ (ab .1);
           out = eqb→eq _ _ (abc .1);
-          counts = counts
+          counts = counts;
         }
     go false e counts = absurd (counts refl)
 

@@ -57,7 +57,7 @@ module _ (q : Parts) (s : Satisfies q) where
       record {
         begins = same-state (s .start-pc) (s .start-fp);
         steps = λ r h. rw (← add-one r) (steps-to r (r + 1) (omega arith) (omega arith) (inner (tablesOf q .height) r (omega arith)));
-        stays = steps-to (lastRow q) (lastRow q) (omega arith) (omega arith) (last (tablesOf q .height) (lastRow q) (omega arith))
+        stays = steps-to (lastRow q) (lastRow q) (omega arith) (omega arith) (last (tablesOf q .height) (lastRow q) (omega arith));
       }
 
 -- an accepted table is one run

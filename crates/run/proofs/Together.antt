@@ -33,7 +33,7 @@ module _ (i : Input) (exec ext : List ℕ) (accepted : judgeOf (withTables i exe
         memory-words = s .memory-words;
         instructions = s .instructions;
         pc-word = subst IsWord (s .start-pc) (row .pc);
-        fp-word = subst IsWord (s .start-fp) (row .fp)
+        fp-word = subst IsWord (s .start-fp) (row .fp);
       }
 
   -- an accepted pair of height H is a legal run of H steps that stays

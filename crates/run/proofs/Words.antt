@@ -38,7 +38,7 @@ module _ (bytes : List ℕ) (words : Words bytes) where
         addrC = word-at (32 * r + 16) (omega arith) (omega arith);
         valueA = word-at (32 * r + 20) (omega arith) (omega arith);
         valueB = word-at (32 * r + 24) (omega arith) (omega arith);
-        valueC = word-at (32 * r + 28) (omega arith) (omega arith)
+        valueC = word-at (32 * r + 28) (omega arith) (omega arith);
       }
 
   pub operand-words : (i : ℕ) → i < length bytes / 48 → OperandWords (instructionAt bytes (48 * i))
@@ -47,7 +47,7 @@ module _ (bytes : List ℕ) (words : Words bytes) where
       record {
         a = word-at (48 * i) (omega arith) (omega arith);
         b = word-at (48 * i + 4) (omega arith) (omega arith);
-        c = word-at (48 * i + 8) (omega arith) (omega arith)
+        c = word-at (48 * i + 8) (omega arith) (omega arith);
       }
 
   five : (at : ℕ) → at % 4 ≡ 0 → at + 20 ≤ length bytes → IsElement (fiveAt bytes at)
@@ -74,7 +74,7 @@ module _ (bytes : List ℕ) (words : Words bytes) where
         vA = five (120 * r + 40) (omega arith) (omega arith);
         vB = five (120 * r + 60) (omega arith) (omega arith);
         comp = five (120 * r + 80) (omega arith) (omega arith);
-        res = five (120 * r + 100) (omega arith) (omega arith)
+        res = five (120 * r + 100) (omega arith) (omega arith);
       }
 
 -- a program and a memory that pass verdicts 1 to 3 are such as the machine runs
@@ -89,7 +89,7 @@ fit-of q program memory program-words memory-words instructions =
       some = omega (arith, cells .number .least);
       cells = memory-words;
       operands = operand-words (q .program) program-words;
-      well-formed = instructions
+      well-formed = instructions;
     }
 
 module _ (q : Parts) (s : Satisfies q) where
@@ -105,5 +105,5 @@ module _ (q : Parts) (s : Satisfies q) where
         few-rows = whole (length (q .ext)) 120 12 (s .ext-size) .number .most;
         small-memory = fit .small;
         words = row-words (q .ext) (s .ext-words);
-        rules = s .constraints .extension
+        rules = s .constraints .extension;
       }
