@@ -5,3 +5,6 @@ pub mod Sound
 pub mod Agree
 pub mod Converse
 pub mod Together
+pub mod Accepts
+pub mod Accepted
+pub mod Tabler

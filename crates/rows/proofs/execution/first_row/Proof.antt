@@ -5,7 +5,7 @@ use Rattle.rows.proofs.execution.first_row.Statement.{statement}
 use Rattle.rows.proofs.execution.first_row.Tie as tie
 
 returns-2 : tie.Need-returns-2
-returns-2 c = exec-made _ _ (c .before .before .before .before .before .before .before .word-inside .ensures) (c .before .before .before .before .before .before .word-inside2 .ensures) (c .before .before .before .before .before .word-inside3 .ensures) (c .before .before .before .before .word-inside4 .ensures) (c .before .before .before .word-inside5 .ensures) (c .before .before .word-inside6 .ensures) (c .before .word-inside7 .ensures) (c .word-inside8 .ensures)
+returns-2 c = exec-made (c .before .before .before .before .before .before .before .before .before .before .args .s .now) 0 (c .before .before .before .before .before .before .before .word-inside .ensures) (c .before .before .before .before .before .before .word-inside2 .ensures) (c .before .before .before .before .before .word-inside3 .ensures) (c .before .before .before .before .word-inside4 .ensures) (c .before .before .before .word-inside5 .ensures) (c .before .before .word-inside6 .ensures) (c .before .word-inside7 .ensures) (c .word-inside8 .ensures)
 
 pub first-row-spec : {M : Type 1} → statement M
 first-row-spec =

@@ -1,0 +1,119 @@
+"""Edits of a definition that `run` must refuse: the edited crate is still proved, and `run`, or a crate of theorems below it, is not.
+
+In a scratch copy under target/; prints a line for each edit, and 'N passed, M failed'."""
+import pathlib
+import re
+import shutil
+import subprocess
+import sys
+
+ROOT = pathlib.Path(__file__).resolve().parent.parent
+SCRATCH = ROOT / "target/mutate"
+RULES = "crates/rules/specs/"
+
+# name, file, what stands there (a line's start, or a piece of it), what is put there
+EDITS = [
+    ("extension rule 9 dropped", RULES + "Extension.antt", r"rule 9 \(.*\)$", "rule 9 (zero? 0)"),
+    ("extension rule 10 dropped", RULES + "Extension.antt", r"rule 10 \(.*\)$", "rule 10 (zero? 0)"),
+    ("extension rule 15 dropped", RULES + "Extension.antt", r"rule 15 \(.*\)$", "rule 15 (zero? 0)"),
+    ("extension rule 16 dropped", RULES + "Extension.antt", r"rule 16 \(.*\)$", "rule 16 (zero? 0)"),
+    ("extension rule 17 dropped", RULES + "Extension.antt", r"rule 17 \(.*\)$", "rule 17 (zero? 0)"),
+    ("execution rule 12 dropped", RULES + "Execution.antt", r"rule 12 \(.*\)$", "rule 12 (zero? 0)"),
+    ("the bus reduced to equal totals", RULES + "Bus.antt", r"^sameTuple s t = .*$", "sameTuple s t = true"),
+    ("the last row wrapped to row 0", RULES + "Given.antt", r"^next n r = .*$", "next n r = either (ltb (r + 1) n) (r + 1) 0"),
+    ("padding with comp 0", "crates/tables/specs/Groups.antt", r"(?s)(padding cell =.*?)comp = elementAt cell 0", r"\1comp = 0 ∷ 0 ∷ 0 ∷ 0 ∷ 0 ∷ []"),
+    ("C not read on an untaken jump", "crates/machine/specs/Step.antt", r"asked 4 \(legal m s \(f \.c\)\)", "asked 4 (legalC m s f (f .kind))"),
+]
+
+# what an edit needs beside it
+EXTRA = {
+    "padding with comp 0": ("crates/tables/specs/Groups.antt", "use mathlib.Core.List.{List}", "use mathlib.Core.List.{List, [], _∷_}"),
+    "C not read on an untaken jump": (
+        "crates/machine/specs/Step.antt",
+        "-- all operands are read before",
+        """-- C of a jump is read only where it is taken
+abbrev pub legalC : Machine → State → Form → Kind → Bool
+legalC m s f Add = legal m s (f .c)
+legalC m s f Mul = legal m s (f .c)
+legalC m s f Deref = legal m s (f .c)
+legalC m s f Jump = eqb (value m s (f .a)) 0 || legal m s (f .c)
+legalC m s f (Extension op be n) = legal m s (f .c)
+
+-- all operands are read before""",
+    ),
+}
+
+
+def needed(name, lines, seen):
+    for other in lines[name]:
+        if other in lines:
+            needed(other, lines, seen)
+    if name not in seen:
+        seen.append(name)
+
+
+def rt(*words):
+    done = subprocess.run(["rt", *words], cwd=SCRATCH, stdout=subprocess.PIPE, stderr=subprocess.STDOUT, text=True)
+    return done.returncode, done.stdout
+
+
+def prepare():
+    shutil.rmtree(SCRATCH, ignore_errors=True)
+    lines = {}
+    for line in (ROOT / "crates.txt").read_text().splitlines():
+        if line and not line.startswith("#"):
+            name, rest = line.split(":")
+            lines[name] = rest.split()
+    crates = []
+    needed("run", lines, crates)
+    (SCRATCH / "crates").mkdir(parents=True)
+    for name in crates:
+        shutil.copytree(ROOT / "crates" / name, SCRATCH / "crates" / name, ignore=shutil.ignore_patterns("must-fail"))
+    (SCRATCH / "crates.txt").write_text("".join(f"{n}: {' '.join(lines[n])}\n" for n in crates))
+    print("proving run as it stands", flush=True)
+    code, out = rt("check", "run")
+    if code != 0:
+        sys.exit(out[-2000:] + "\nrun is not proved as it stands")
+
+
+def first_error(out):
+    for line in out.splitlines():
+        if ": error" in line:
+            return re.sub(r"\S*/crates/", "crates/", line)[:160]
+    return "no error line"
+
+
+def mutate(name, path, old, new):
+    file = SCRATCH / path
+    text = file.read_text()
+    edited, times = re.subn(old, new, text, count=1, flags=re.M)
+    if name in EXTRA:
+        edited = edited.replace(EXTRA[name][1], EXTRA[name][2], 1)
+    if times != 1 or edited == text:
+        return False, "the edit found nothing to change"
+    file.write_text(edited)
+    try:
+        crate = pathlib.Path(path).parts[1]
+        code, out = rt("check", crate)
+        if code != 0:
+            return False, f"{crate} itself is refused: {first_error(out)}"
+        code, out = rt("check", "run")
+        if code != 1:
+            return False, f"run was not refused (exit {code})"
+        return True, first_error(out)
+    finally:
+        file.write_text(text)
+
+
+def main():
+    prepare()
+    passed = failed = 0
+    for edit in EDITS:
+        ok, why = mutate(*edit)
+        passed, failed = passed + ok, failed + (not ok)
+        print(f"{'refused' if ok else 'FAILED'}: {edit[0]}: {why}", flush=True)
+    print(f"{passed} passed, {failed} failed")
+    return 0 if failed == 0 else 1
+
+
+sys.exit(main())
