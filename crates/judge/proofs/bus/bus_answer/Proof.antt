@@ -1,0 +1,16 @@
+-- Pushes and pulls that match in order leave no tuple unequal.
+use mathlib.Core.List.{[]}
+use Rattle.judge.specs.Stages.{given, tables}
+use Rattle.judge.proofs.Balances.{all-equal}
+use borrow.Author.Needs.{needs}
+use Rattle.judge.proofs.bus.bus_answer.Statement.{statement}
+use Rattle.judge.proofs.bus.bus_answer.Tie as tie
+
+returns : tie.Need-returns
+returns c =
+    let start = c .before .before .before .before .before in
+    let in-order = c .before .in-order in
+    all-equal (given (start .args .program .now) []) (tables (start .args .exec .now) (start .args .ext .now)) (in-order .ensures (c .if1 .taken))
+
+pub bus-answer-spec : {M : Type 1} → statement M
+bus-answer-spec = tie.close (tie.spec (λ c κs. search needs) returns (λ c κs. search needs) (λ c. search needs))

@@ -1,0 +1,70 @@
+-- Each answer is the case of the tests that led to it; where no rule fails the bus has what it asks.
+use borrow.Author.Tests.{lt-ltb, le-ltb}
+use mathlib.Core.Path.{sym, _∙_}
+use Rattle.judge.proofs.Passed.{rows-formed, rows-flagged, ext-failing-same, first-ext-same}
+use borrow.Author.Needs.{needs}
+use Rattle.judge.proofs.stage.rules_answer.Statement.{statement}
+use Rattle.judge.proofs.stage.rules_answer.Tie as tie
+
+returns : tie.Need-returns
+returns c = rw (c .exec-row-failing .ensures, sym (c .before .before .first-exec .ensures), lt-ltb _ _ (c .before .if1 .taken))
+
+returns-2 : tie.Need-returns-2
+returns-2 c =
+    let start = c .before .before .before .before .before .before .before .before .before in
+    let first-exec = c .before .before .before .before .first-exec in
+    let if1 = c .before .before .before .if1 in
+    let first-ext = c .before .before .first-ext in
+    let if2 = c .before .if2 in
+    rw (
+      sym (first-exec .ensures),
+      le-ltb _ _ (if1 .left),
+      c .ext-row-failing .ensures ∙ ext-failing-same (start .args .program .now) (start .args .memory .now) (start .args .exec .now)
+          (start .args .ext .now) (first-ext .result),
+      sym (first-ext .ensures ∙ first-ext-same (start .args .program .now) (start .args .memory .now) (start .args .exec .now) (start .args .ext .now)),
+      lt-ltb _ _ (if2 .taken),
+    )
+
+bus-answer-requires : tie.Need-bus-answer-requires
+bus-answer-requires c κs =
+    let start = c .before .before .before .before .before .before .before .before in
+    let first-exec = c .before .before .before .first-exec in
+    let if1 = c .before .before .if1 in
+    let first-ext = c .before .first-ext in
+    let formed =
+    rows-formed (start .args .program .now) (start .args .memory .now) (start .args .exec .now) (first-exec .result) (first-exec .ensures)
+    (if1 .left)
+    (start .pre .1 .1) in
+    let flagged =
+    rows-flagged (start .args .memory .now) (start .args .ext .now) (first-ext .result) (first-ext .ensures) (c .if2 .left) (start .pre .1 .0) in
+    (formed, (flagged, start .pre .0))
+
+returns-3 : tie.Need-returns-3
+returns-3 c =
+    let start = c .before .before .before .before .before .before .before .before .before in
+    let first-exec = c .before .before .before .before .first-exec in
+    let if1 = c .before .before .before .if1 in
+    let first-ext = c .before .before .first-ext in
+    let if2 = c .before .if2 in
+    rw (
+      sym (first-exec .ensures),
+      le-ltb _ _ (if1 .left),
+      sym (first-ext .ensures ∙ first-ext-same (start .args .program .now) (start .args .memory .now) (start .args .exec .now) (start .args .ext .now)),
+      le-ltb _ _ (if2 .left),
+    )
+    (c .bus-answer .ensures)
+
+pub rules-answer-spec : {M : Type 1} → statement M
+rules-answer-spec =
+    tie.close
+    (tie.spec
+    (λ c κs. search needs)
+    (λ c κs. search needs)
+    (λ c. search needs)
+    returns
+    (λ c κs. search needs)
+    (λ c κs. search needs)
+    (λ c. search needs)
+    returns-2
+    bus-answer-requires
+    returns-3)

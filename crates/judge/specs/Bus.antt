@@ -1,0 +1,49 @@
+-- Document 01, "The bus": what its code is handed, and what it shows on the way.
+use mathlib.Core.Path.{_≡_}
+use mathlib.Core.Bool.{Bool, true}
+use mathlib.Core.List.{List, []}
+use Prim.Native.Nat.{ℕ, _*_, _/_, _≤_, _<_}
+use lib.ListN.{length}
+use Rattle.form.specs.Form.{wellFormed}
+use Rattle.rows.specs.Rows.{execAt, extAt}
+use Rattle.rows.specs.declared.Ext.{Ext}
+use Rattle.rules.specs.Given.{zero?, either}
+use Rattle.rules.specs.Bus.{Tuple, sameTuple, pushed, pushes, pulled, pulls, pushedTo, pulledTo, instructionOf}
+use Rattle.judge.specs.Stages.{given, tables}
+use Rattle.judge.specs.declared.Sent.{Sent}
+
+-- the code's tuple
+abbrev pub tupleOf : Sent → Tuple
+tupleOf s = record { aux = s .aux; left = s .left; right = s .right; out = s .out }
+
+-- what the instructions and the execution rules leave: each row's instruction is well-formed
+abbrev pub Formed : List ℕ → List ℕ → Type 0
+Formed program exec =
+    (r : ℕ) → r < length exec / 32 → wellFormed (instructionOf (given program []) (tables exec []) r) ≡ true
+
+-- what the extension rules leave: the flags that multiplicities are made of are 0 or 1
+pub record Flags (x : Ext) : Type 0 where
+  pub start-bit : x .start ≤ 1
+  pub add-bit : x .add ≤ 1
+  pub mul-bit : x .mul ≤ 1
+  pub peq-bit : x .peq ≤ 1
+
+abbrev pub Flagged : List ℕ → Type 0
+Flagged ext = (k : ℕ) → k < length ext / 120 → Flags (extAt ext (120 * k))
+
+-- an extension row that pulls nothing
+abbrev pub idle : List ℕ → ℕ → Bool
+idle ext k = zero? (pulls (extAt ext (120 * k)))
+
+-- the execution rows below r push what the extension rows below k pull
+abbrev pub InOrder : List ℕ → List ℕ → List ℕ → ℕ → ℕ → Type 0
+InOrder program exec ext r k = (σ : Tuple) → pushedTo (given program []) (tables exec ext) σ r ≡ pulledTo (tables exec ext) σ k
+
+-- how often one row pushes, or pulls, a tuple
+abbrev pub pushesOf : List ℕ → List ℕ → Tuple → ℕ → ℕ
+pushesOf program exec σ r =
+    let i = instructionOf (given program []) (tables exec []) r in
+    either (sameTuple (pushed i (execAt exec (32 * r))) σ) (pushes i) 0
+
+abbrev pub pullsOf : List ℕ → Tuple → ℕ → ℕ
+pullsOf ext σ k = either (sameTuple (pulled (extAt ext (120 * k))) σ) (pulls (extAt ext (120 * k))) 0

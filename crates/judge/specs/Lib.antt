@@ -1,0 +1,5 @@
+pub mod Memory
+pub mod Parts
+pub mod ExtParts
+pub mod Stages
+pub mod Bus

@@ -1,0 +1,45 @@
+// 7 BUS: one walk settles tables whose groups stand in execution order, as a tabler's do; any other is counted.
+use crate::count::first_pull;
+use crate::count::first_push;
+use crate::in_order::in_order;
+use answer::Answer;
+ghost use mathlib.Core.Path.{_≡_};
+ghost use mathlib.Core.List.{[]};
+ghost use Rattle.judged.specs.Judged.{bus};
+ghost use Rattle.judge.specs.Stages.{given, tables, Short};
+ghost use Rattle.judge.specs.Bus.{Formed, Flagged};
+
+fn counted(program: &[u8], exec: &[u8], ext: &[u8]) -> Answer
+    requires { ⌜ Formed (now program) (now exec) ⌝ }
+    requires { ⌜ Flagged (now ext) ⌝ }
+    requires { ⌜ Short (now exec) × Short (now ext) ⌝ }
+    ensures { λ r. ⌜ r ≡ bus (given (now (program .entry)) []) (tables (now (exec .entry)) (now (ext .entry))) ⌝ }
+{
+    let r = first_push(program, exec, ext);
+    if r < exec.len() / 32 {
+        return Answer::Bus {
+            part: 3,
+            row: r as u32,
+        };
+    }
+    let k = first_pull(program, exec, ext);
+    if k < ext.len() / 120 {
+        return Answer::Bus {
+            part: 4,
+            row: k as u32,
+        };
+    }
+    Answer::Accepted
+}
+
+pub fn bus_answer(program: &[u8], exec: &[u8], ext: &[u8]) -> Answer
+    requires { ⌜ Formed (now program) (now exec) ⌝ }
+    requires { ⌜ Flagged (now ext) ⌝ }
+    requires { ⌜ Short (now exec) × Short (now ext) ⌝ }
+    ensures { λ r. ⌜ r ≡ bus (given (now (program .entry)) []) (tables (now (exec .entry)) (now (ext .entry))) ⌝ }
+{
+    if in_order(program, exec, ext) {
+        return Answer::Accepted;
+    }
+    counted(program, exec, ext)
+}

@@ -1,0 +1,110 @@
+// The stages after the sizes, each an early answer or the next stage. A start is 64 bits wide and is compared whole.
+use crate::bus::bus_answer;
+use crate::table::exec_row_failing;
+use crate::table::ext_row_failing;
+use crate::table::first_exec;
+use crate::table::first_ext;
+use crate::walk::first_malformed;
+use crate::walk::first_word;
+use answer::Answer;
+use rows::exec_row;
+ghost use mathlib.Core.Path.{_≡_};
+ghost use Prim.Native.Nat.{_<_, _^_};
+ghost use Rattle.rules.specs.Satisfies.{Words};
+ghost use Rattle.judge.specs.Stages.{wordsOf, programOf, rulesOf, Short, WellFormed};
+
+// 5 EXEC, 6 EXTENSION and 7 BUS.
+fn rules_answer(program: &[u8], memory: &[u8], exec: &[u8], ext: &[u8]) -> Answer
+    requires { ⌜ Short (now exec) × Short (now ext) ⌝ }
+    requires { ⌜ Words (now ext) ⌝ }
+    requires { ⌜ WellFormed (now program) ⌝ }
+    ensures { λ r. ⌜ r ≡ rulesOf (now (program .entry)) (now (memory .entry)) (now (exec .entry)) (now (ext .entry)) ⌝ }
+{
+    let r = first_exec(program, memory, exec);
+    if r < exec.len() / 32 {
+        let rule = exec_row_failing(program, memory, exec, r);
+        return Answer::Exec {
+            row: r as u32,
+            rule,
+        };
+    }
+    let k = first_ext(memory, ext);
+    if k < ext.len() / 120 {
+        let rule = ext_row_failing(memory, ext, k);
+        return Answer::Extension {
+            row: k as u32,
+            rule,
+        };
+    }
+    bus_answer(program, exec, ext)
+}
+
+// 3 INSTRUCTION and 4 START, then the rules.
+fn program_answer(
+    program: &[u8],
+    memory: &[u8],
+    pc: u64,
+    fp: u64,
+    exec: &[u8],
+    ext: &[u8],
+) -> Answer
+    requires { ⌜ Short (now program) × Short (now exec) × Short (now ext) ⌝ }
+    requires { ⌜ Words (now ext) ⌝ }
+    ensures { λ r. ⌜ r ≡ programOf (now (program .entry)) (now (memory .entry)) pc fp (now (exec .entry)) (now (ext .entry)) ⌝ }
+{
+    let i = first_malformed(program);
+    if i < program.len() / 48 {
+        return Answer::Instruction { place: i as u32 };
+    }
+    let x = exec_row(exec, 0);
+    let start_pc = x.pc as u64;
+    if start_pc != pc {
+        return Answer::Start;
+    }
+    let start_fp = x.fp as u64;
+    if start_fp != fp {
+        return Answer::Start;
+    }
+    rules_answer(program, memory, exec, ext)
+}
+
+// 2 WORD by part, then the program.
+pub fn words_answer(
+    program: &[u8],
+    memory: &[u8],
+    pc: u64,
+    fp: u64,
+    exec: &[u8],
+    ext: &[u8],
+) -> Answer
+    requires { ⌜ Short (now program) × Short (now memory) × Short (now exec) × Short (now ext) ⌝ }
+    ensures { λ r. ⌜ r ≡ wordsOf (now (program .entry)) (now (memory .entry)) pc fp (now (exec .entry)) (now (ext .entry)) ⌝ }
+{
+    let a = first_word(program);
+    if a < program.len() / 4 {
+        return word_refused(1, a);
+    }
+    let b = first_word(memory);
+    if b < memory.len() / 4 {
+        return word_refused(2, b);
+    }
+    let c = first_word(exec);
+    if c < exec.len() / 4 {
+        return word_refused(3, c);
+    }
+    let d = first_word(ext);
+    if d < ext.len() / 4 {
+        return word_refused(4, d);
+    }
+    program_answer(program, memory, pc, fp, exec, ext)
+}
+
+fn word_refused(part: u32, place: usize) -> Answer
+    requires { ⌜ place < 2 ^ 32 ⌝ }
+    ensures { λ r. ⌜ r ≡ Answer.Word part place ⌝ }
+{
+    Answer::Word {
+        part,
+        place: place as u32,
+    }
+}

@@ -1,0 +1,9 @@
+pub mod Parts
+pub mod Drawing
+pub mod Making
+pub mod Cells
+pub mod Filling
+pub mod Answers
+pub mod WellFormed
+pub mod ReadBack
+pub mod Seeds

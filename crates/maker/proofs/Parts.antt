@@ -1,0 +1,101 @@
+-- A buffer filled from its front, a part at a time, each through its own bytes.
+-- Assumes nothing.
+use mathlib.Core.Path.{_≡_, refl, sym, ap, ap₂, _∙_}
+use mathlib.Core.List.{List, _++_, append-assoc, append-nil}
+use Prim.Native.Nat.{ℕ, zero, suc, _+_, _-_, _*_, _≤_, _<_}
+use native.Mathlib.Nat.{add-zero, mul-zero, mul-suc}
+use native.Mathlib.Numerals.{add-one}
+use native.Mathlib.Omega.{arith}
+use borrow.Author.Tests.{le-leb}
+use lib.ListN.{length, take, drop, getD, replicate, length-append, length-drop, replicate-append-replicate}
+use lib.Seq.{take-at, drop-at, drop-drop, length-take-le}
+use Rattle.word.specs.Bytes.{bytesOf, withWord}
+use Rattle.maker.specs.Bytes.{partsOf, wordBytes}
+
+module _ (part : ℕ → List ℕ) where
+  pub parts-length : (size : ℕ) → ((k : ℕ) → length (part k) ≡ size) → (n : ℕ) → length (partsOf part n) ≡ size * n
+  unfolding partsOf
+  parts-length size each zero = sym (mul-zero size)
+  parts-length size each (suc n) =
+      length-append (partsOf part n) (part n) ∙ ap₂ _+_ (parts-length size each n) (each n) ∙ sym (mul-suc size n)
+
+  pub parts-append : (k n : ℕ) → partsOf part (k + n) ≡ partsOf part k ++ partsOf (λ j. part (k + j)) n
+  unfolding partsOf
+  parts-append k zero = rw (add-zero k) (sym (append-nil (partsOf part k)))
+  parts-append k (suc n) =
+      let e : k + suc n ≡ suc (k + n) = omega arith in
+      rw (e, parts-append k n) (append-assoc (partsOf part k) (partsOf (λ j. part (k + j)) n) (part (k + n)))
+
+  pub parts-same : (other : ℕ → List ℕ) (n : ℕ) → ((j : ℕ) → j < n → part j ≡ other j) → partsOf part n ≡ partsOf other n
+  unfolding partsOf
+  parts-same other zero h = refl
+  parts-same other (suc n) h = ap₂ _++_ (parts-same other n (λ j b. h j (omega arith))) (h n (omega arith))
+
+  pub parts-one : (k : ℕ) → partsOf part (k + 1) ≡ partsOf part k ++ part k
+  unfolding partsOf
+  parts-one k = rw (add-one k)
+
+-- four bytes for each word
+pub words-length : (words : List ℕ) → length (wordBytes words) ≡ 4 * length words
+words-length words = parts-length _ 4 (λ k. refl) (length words)
+
+-- words that are 0 are bytes that are 0
+pub zero-parts : (n : ℕ) → partsOf (λ k. bytesOf 0) n ≡ replicate (4 * n) 0
+unfolding partsOf
+zero-parts zero = refl
+zero-parts (suc n) =
+    let e : 4 * suc n ≡ 4 * n + 4 = omega arith in
+    ap (λ (l : List ℕ). l ++ bytesOf 0) (zero-parts n) ∙ rw e (replicate-append-replicate (4 * n) 4 0)
+
+-- a part that comes next, once it has come back
+pub lent : (t front row : List ℕ) (at end : ℕ) → length front ≡ at → at ≤ end
+    → take at (front ++ drop at t) ++ (row ++ drop (end - at) (drop at (front ++ drop at t))) ≡ front ++ row ++ drop end t
+lent t front row at end f low =
+    let e : at + (end - at) ≡ end = omega arith in
+    rw (take-at front (drop at t) at f, drop-at front (drop at t) at f, drop-drop (end - at) at t, e) (sym (append-assoc front row (drop end t)))
+
+pub part-length : (t : List ℕ) (at size : ℕ) → at + size ≤ length t → length (take (at + size - at) (drop at t)) ≡ size
+part-length t at size h =
+    let e : at + size - at ≡ size = omega arith in
+    rw e (length-take-le size (drop at t) (omega (arith, length-drop at t)))
+
+-- what stands behind the front is what stood there
+pub behind : (t front : List ℕ) (at k : ℕ) → length front ≡ at → at ≤ k → drop k (front ++ drop at t) ≡ drop k t
+behind t front at k f low =
+    let e : at + (k - at) ≡ k = omega arith in
+    ap (λ (n : ℕ). drop n (front ++ drop at t)) (sym e)
+    ∙ sym (drop-drop (k - at) at (front ++ drop at t))
+    ∙ ap (drop (k - at)) (drop-at front (drop at t) at f)
+    ∙ drop-drop (k - at) at t
+    ∙ ap (λ (n : ℕ). drop n t) e
+
+-- a word that comes next
+next-word : (t front : List ℕ) (at x : ℕ) → length front ≡ at → at + 4 ≤ length (front ++ drop at t)
+    → withWord (front ++ drop at t) at x ≡ front ++ bytesOf x ++ drop (at + 4) t
+unfolding withWord
+next-word t front at x f room =
+    rw (le-leb (at + 4) (length (front ++ drop at t)) room, take-at front (drop at t) at f, behind t front at (at + 4) f (omega arith))
+
+-- the buffer keeps its length
+pub front-length : (t front : List ℕ) (at : ℕ) → length front ≡ at → at ≤ length t → length (front ++ drop at t) ≡ length t
+front-length t front at f high = length-append front (drop at t) ∙ omega (arith, length-drop at t)
+
+module _ (words t : List ℕ) (k : ℕ) (h : k < length words) (sized : length t ≡ 4 * length words) where
+  first : ℕ → List ℕ
+  first n = partsOf (λ j. bytesOf (getD words j 0)) n
+
+  front : (n : ℕ) → length (first n) ≡ 4 * n
+  unfolding first
+  front n = parts-length _ 4 (λ j. refl) n
+
+  pub word-put : withWord (partsOf (λ j. bytesOf (getD words j 0)) k ++ drop (4 * k) t) (4 * k) (getD words k 0)
+      ≡ partsOf (λ j. bytesOf (getD words j 0)) (k + 1) ++ drop (4 * (k + 1)) t
+  unfolding first
+  word-put =
+      let e : 4 * k + 4 ≡ 4 * (k + 1) = omega arith in
+      next-word t (first k) (4 * k) (getD words k 0) (front k) (omega (arith, front-length t (first k) (4 * k) (front k) (omega arith)))
+      ∙ rw (parts-one (λ j. bytesOf (getD words j 0)) k, e)
+
+  pub word-length : length (partsOf (λ j. bytesOf (getD words j 0)) (k + 1) ++ drop (4 * (k + 1)) t) ≡ length t
+  unfolding first
+  word-length = front-length t (first (k + 1)) (4 * (k + 1)) (front (k + 1)) (omega arith)

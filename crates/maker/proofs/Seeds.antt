@@ -1,0 +1,62 @@
+-- The maker is not blind to its seed: the seed's upper half alone changes the first draw, always.
+-- Assumes nothing.
+use mathlib.Core.Path.{_≡_, refl, sym, ap, _∙_}
+use mathlib.Core.List.{List}
+use Prim.Native.Nat.{ℕ, _+_, _*_, _/_, _%_, _^_, _<_}
+use native.Mathlib.Omega.{arith}
+use borrow.Author.Tests.{eqb-false}
+use lib.Pow.{pow-pos}
+use lib.Dec.{lit<}
+use Rattle.word.specs.Bytes.{wordAt}
+use Rattle.label.specs.declared.Recipe.{Recipe}
+use Rattle.draw.specs.Draw.{advance}
+use Rattle.maker.specs.Drawn.{stateAfter, drawn, cellDrawn}
+use Rattle.maker.specs.Bytes.{memoryOf}
+use Rattle.maker.proofs.ReadBack.{cell-read}
+use Rattle.maker.proofs.Cells.{drawn-cell}
+
+-- a multiple of 2^32 that is added to the state shows in its upper half, modulo 2^32
+shows : (x y : ℕ) → x % 2 ^ 64 / 2 ^ 32 ≡ (x + 2 ^ 32 * y) % 2 ^ 64 / 2 ^ 32 → y % 2 ^ 32 ≡ 0
+shows x y e = omega arith
+
+no-multiple : (d u v : ℕ) → 0 < d → d < 2 ^ 32 → d + 4294967296 * u ≡ 4294967296 * v → ⊥
+no-multiple d u v low high e = omega arith
+
+-- the multiplier is odd: 849225893 undoes it modulo 2^32
+odd : (d : ℕ) → 0 < d → d < 2 ^ 32 → 6364136223846793005 * d % 2 ^ 32 ≡ 0 → ⊥
+odd d low high e =
+    no-multiple d (1258353997922954309 * d) (849225893 * (6364136223846793005 * d / 2 ^ 32)) low high
+    (undone d (6364136223846793005 * d / 2 ^ 32) (omega arith))
+  where
+    undone : (d k : ℕ) → 6364136223846793005 * d ≡ 4294967296 * k → d + 4294967296 * (1258353997922954309 * d) ≡ 4294967296 * (849225893 * k)
+    undone d k e = omega arith
+
+-- two seeds d times 2^32 apart
+pub upper-half : (seed d : ℕ) → 0 < d → d < 2 ^ 32 → drawn seed 0 ≡ drawn (seed + 2 ^ 32 * d) 0 → ⊥
+unfolding stateAfter advance
+upper-half seed d low high e =
+    let apart : 6364136223846793005 * (seed + 2 ^ 32 * d) + 1442695040888963407 ≡ 6364136223846793005 * seed + 1442695040888963407 + 2 ^ 32 * (6364136223846793005 * d) = omega arith in
+    odd d low high (shows (6364136223846793005 * seed + 1442695040888963407) (6364136223846793005 * d) (rw apart at e))
+
+-- two recipes with one memory have the same cell 0, the first draw modulo p
+module _ (m n : ℕ) where
+  abbrev made : ℕ → Recipe
+  made seed = record { seed = seed; m = m; n = n }
+
+  pub first-cell : (x y : ℕ) → memoryOf (made x) ≡ memoryOf (made y) → cellDrawn x 0 ≡ cellDrawn y 0
+  first-cell x y e =
+      let some : 0 < 2 ^ m = pow-pos m in
+      sym (cell-read (made x) 0 some ∙ drawn-cell x n 0 (lit< tt)) ∙ ap (λ (s : List ℕ). wordAt s 0) e ∙ cell-read (made y) 0 some ∙ drawn-cell y n 0 (lit< tt)
+
+  -- 000000002fffffff, 000000012fffffff and ffffffff2fffffff: three memories
+  pub low-middle : memoryOf (made 805306367) ≡ memoryOf (made 5100273663) → ⊥
+  unfolding stateAfter advance
+  low-middle e = eqb-false (cellDrawn 805306367 0) (cellDrawn 5100273663 0) refl (first-cell 805306367 5100273663 e)
+
+  pub low-high : memoryOf (made 805306367) ≡ memoryOf (made 18446744070219890687) → ⊥
+  unfolding stateAfter advance
+  low-high e = eqb-false (cellDrawn 805306367 0) (cellDrawn 18446744070219890687 0) refl (first-cell 805306367 18446744070219890687 e)
+
+  pub middle-high : memoryOf (made 5100273663) ≡ memoryOf (made 18446744070219890687) → ⊥
+  unfolding stateAfter advance
+  middle-high e = eqb-false (cellDrawn 5100273663 0) (cellDrawn 18446744070219890687 0) refl (first-cell 5100273663 18446744070219890687 e)

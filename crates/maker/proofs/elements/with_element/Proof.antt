@@ -1,0 +1,19 @@
+-- By the promises of the four calls.
+use borrow.Author.Needs.{needs}
+use Rattle.maker.proofs.elements.with_element.Statement.{statement}
+use Rattle.maker.proofs.elements.with_element.Tie as tie
+
+returns : tie.Need-returns
+returns c = cc
+
+pub with-element-spec : {M : Type 1} → statement M
+with-element-spec =
+    tie.close
+    (tie.spec
+    (λ c κs. search needs)
+    (λ c. search needs)
+    (λ c. search needs)
+    (λ c κs. search needs)
+    (λ c κs. search needs)
+    (λ c κs. search needs)
+    returns)

@@ -1,0 +1,57 @@
+-- Document 01, "Draws, recipe, label" and "Verdicts" SIZE parts 0 to 2: the maker's answer, and both buffers at return.
+use mathlib.Core.Bool.{Bool, cond, _&&_}
+use mathlib.Core.List.{List, [], _∷_, _++_}
+use Prim.Native.Nat.{ℕ, zero, suc, _+_, _*_, _^_}
+use lib.ListN.{length, getD}
+use lib.Dec.{eqb}
+use Rattle.word.specs.Bytes.{bytesOf}
+use Rattle.form.specs.declared.Instruction.{Instruction}
+use Rattle.answer.specs.declared.Answer.{Answer}
+use Rattle.answer.specs.declared.Answer.the-variants.{Accepted, Size}
+use Rattle.label.specs.Label.{ranged}
+use Rattle.label.specs.declared.Recipe.{Recipe}
+use Rattle.maker.specs.Made.{instructionOf, cellOf}
+
+-- n parts of a buffer, one after the other
+unfoldable pub partsOf : (ℕ → List ℕ) → ℕ → List ℕ
+partsOf part zero = []
+partsOf part (suc n) = partsOf part n ++ part n
+
+-- four bytes for each word
+abbrev pub wordBytes : List ℕ → List ℕ
+wordBytes words = partsOf (λ k. bytesOf (getD words k 0)) (length words)
+
+-- an instruction's 12 words
+abbrev pub wordsOf : Instruction → List ℕ
+wordsOf i =
+    i .a ∷ i .b ∷ i .c ∷ i .fa ∷ i .fb ∷ i .fc ∷ i .fpc ∷ i .fpab ∷ i .mul ∷ i .jump ∷ i .aux ∷ i .«data» ∷ []
+
+-- the first k instructions of a recipe, and the first k cells
+abbrev pub instructionsOf : ℕ → ℕ → ℕ → List ℕ
+instructionsOf seed n k = partsOf (λ i. wordBytes (wordsOf (instructionOf seed n i))) k
+
+abbrev pub cellsOf : ℕ → ℕ → ℕ → List ℕ
+cellsOf seed n k = partsOf (λ j. bytesOf (cellOf seed n j)) k
+
+abbrev pub programOf : Recipe → List ℕ
+programOf r = instructionsOf (r .seed) (r .n) (r .n + 1)
+
+abbrev pub memoryOf : Recipe → List ℕ
+memoryOf r = cellsOf (r .seed) (r .n) (2 ^ r .m)
+
+-- parts 0, 1 and 2, the lowest that fails
+abbrev pub fits : Recipe → ℕ → ℕ → Bool
+fits r program memory = ranged r && eqb program (48 * (r .n + 1)) && eqb memory (4 * 2 ^ r .m)
+
+unfoldable pub makeOf : Recipe → ℕ → ℕ → Answer
+makeOf r program memory =
+    cond (ranged r)
+    (cond (eqb program (48 * (r .n + 1))) (cond (eqb memory (4 * 2 ^ r .m)) Accepted (Size 2 0)) (Size 1 0))
+    (Size 0 0)
+
+-- what a buffer holds at return: all of it is filled, and refusals change no byte
+abbrev pub programAfter : Recipe → List ℕ → List ℕ → List ℕ
+programAfter r program memory = cond (fits r (length program) (length memory)) (programOf r) program
+
+abbrev pub memoryAfter : Recipe → List ℕ → List ℕ → List ℕ
+memoryAfter r program memory = cond (fits r (length program) (length memory)) (memoryOf r) memory

@@ -1,0 +1,105 @@
+// Both buffers, front to back, each byte once.
+use crate::draws::Three;
+use crate::draws::begin;
+use crate::draws::draw_three;
+use crate::instructions::halt_words;
+use crate::instructions::made_words;
+use crate::slots::slot_words;
+use word::put_word;
+ghost use mathlib.Core.Path.{_≡_};
+ghost use mathlib.Core.List.{_++_};
+ghost use Prim.Native.Nat.{_+_, _*_, _/_, _%_, _≤_, _<_};
+ghost use lib.ListN.{length, drop, replicate};
+ghost use Rattle.maker.specs.Made.{cellIn, made, slotOf};
+ghost use Rattle.maker.specs.Bytes.{wordsOf, wordBytes, instructionsOf, cellsOf};
+
+// Words, into as many bytes.
+fn put_words(words: &[u32], s: &mut [u8])
+    requires { ⌜ length (now s) ≡ 4 * length (now words) ⌝ }
+    ensures { λ _. ⌜ now (s .exit) ≡ wordBytes (now (words .entry)) ⌝ }
+{
+    let mut k = 0;
+    while k < words.len() {
+        put_word(s, 4 * k, words[k]);
+        k += 1;
+    }
+}
+
+fn clear(s: &mut [u8])
+    ensures { λ _. ⌜ now (s .exit) ≡ replicate (length (now (s .entry))) 0 ⌝ }
+{
+    let mut k = 0;
+    while k < s.len() {
+        s[k] = 0;
+        k += 1;
+    }
+}
+
+// An instruction and its slot, through their own bytes.
+fn put_one(cells: &[u32; 32], i: u32, drawn: Three, instruction: &mut [u8], slot: &mut [u8])
+    requires { ⌜ (i ≤ 124) × (drawn .a < 32) × (drawn .c < 32) × (length (now instruction) ≡ 48) × (length (now slot) ≡ 32) ⌝ }
+    ensures { λ _. ⌜
+        (now (instruction .exit) ≡ wordBytes (wordsOf (made i (drawn .kind) (drawn .a) (drawn .c))))
+        × (now (slot .exit) ≡ wordBytes (slotOf (cellIn (now (cells .entry))) (drawn .kind) (drawn .a) (drawn .c)))
+        ⌝ }
+{
+    let words = made_words(i, drawn.kind, drawn.a, drawn.c);
+    put_words(&words, instruction);
+    let filled = slot_words(cells, drawn.kind, drawn.a, drawn.c);
+    put_words(&filled, slot);
+}
+
+// The drawn cells, then each instruction with its slot.
+fn put_all(seed: u64, n: u32, program: &mut [u8], memory: &mut [u8])
+    requires { ⌜ (n ≤ 124) × (48 * n ≤ length (now program)) × (128 + 32 * n ≤ length (now memory)) ⌝ }
+    ensures { λ _. ⌜
+        (now (program .exit) ≡ instructionsOf seed n n ++ drop (48 * n) (now (program .entry)))
+        × (now (memory .exit) ≡ cellsOf seed n (32 + 8 * n) ++ drop (128 + 32 * n) (now (memory .entry)))
+        ⌝ }
+{
+    let begun = begin(seed);
+    let drawn = begun.cells;
+    let mut generator = begun.next;
+    let first = 0;
+    let end = 128;
+    put_words(&drawn, &mut memory[first..end]);
+    let mut i: u32 = 0;
+    while i < n {
+        let draws = draw_three(generator);
+        let at = 48 * (i as usize);
+        let past = at + 48;
+        let slot = 128 + 32 * (i as usize);
+        let behind = slot + 32;
+        put_one(
+            &drawn,
+            i,
+            draws,
+            &mut program[at..past],
+            &mut memory[slot..behind],
+        );
+        let next = draws.next;
+        generator = next;
+        i += 1;
+    }
+}
+
+// All of both buffers; past the slots the memory is 0.
+pub fn fill(seed: u64, n: u32, program: &mut [u8], memory: &mut [u8])
+    requires { ⌜
+        (n ≤ 124)
+        × (length (now program) ≡ 48 * (n + 1))
+        × (128 + 32 * n ≤ length (now memory))
+        × (length (now memory) % 4 ≡ 0)
+        ⌝ }
+    ensures { λ _. ⌜
+        (now (program .exit) ≡ instructionsOf seed n (n + 1))
+        × (now (memory .exit) ≡ cellsOf seed n (length (now (memory .entry)) / 4))
+        ⌝ }
+{
+    put_all(seed, n, &mut *program, &mut *memory);
+    let last = 48 * (n as usize);
+    let words = halt_words(n);
+    put_words(&words, &mut program[last..]);
+    let past = 128 + 32 * (n as usize);
+    clear(&mut memory[past..]);
+}

@@ -1,0 +1,74 @@
+-- At each return the tests that led there pick the answer; e1 to e5 are the places where a test passed.
+use borrow.Author.Needs.{needs}
+use borrow.Author.Tests.{lt-ltb, le-ltb}
+use mathlib.Core.Path.{refl}
+use Rattle.word.specs.Word.{p}
+use Rattle.tabler.proofs.Ending.{unchanged}
+use Rattle.tabler.proofs.tests.table_words.Statement.{statement}
+use Rattle.tabler.proofs.tests.table_words.Tie as tie
+
+returns : tie.Need-returns
+returns c = unchanged _ _ _ _ _ _ (λ old written. refl) (rw (← c .before .first-word .ensures, lt-ltb _ _ (c .if1 .taken)))
+
+returns-2 : tie.Need-returns-2
+returns-2 c =
+    let e1 = c .before .before in
+    unchanged _ _ _ _ _ _ (λ old written. refl)
+    (rw (← e1 .before .first-word .ensures, le-ltb _ _ (e1 .if1 .left), ← c .before .first-word2 .ensures, lt-ltb _ _ (c .if2 .taken)))
+
+returns-3 : tie.Need-returns-3
+returns-3 c =
+    let e2 = c .before .before in
+    let e1 = e2 .before .before in
+    unchanged _ _ _ _ _ _ (λ old written. refl)
+    (rw (← e1 .before .first-word .ensures, le-ltb _ _ (e1 .if1 .left), ← e2 .before .first-word2 .ensures, le-ltb _ _ (e2 .if2 .left), ← c .before .first-malformed .ensures, lt-ltb _ _ (c .if3 .taken)))
+
+returns-4 : tie.Need-returns-4
+returns-4 c =
+    let e3 = c .before in
+    let e2 = e3 .before .before in
+    let e1 = e2 .before .before in
+    unchanged _ _ _ _ _ _ (λ old written. refl)
+    (rw (← e1 .before .first-word .ensures, le-ltb _ _ (e1 .if1 .left), ← e2 .before .first-word2 .ensures, le-ltb _ _ (e2 .if2 .left), ← e3 .before .first-malformed .ensures, le-ltb _ _ (e3 .if3 .left), le-ltb _ p (c .if4 .taken)))
+
+returns-5 : tie.Need-returns-5
+returns-5 c =
+    let e4 = c .before in
+    let e3 = e4 .before in
+    let e2 = e3 .before .before in
+    let e1 = e2 .before .before in
+    unchanged _ _ _ _ _ _ (λ old written. refl)
+    (rw (← e1 .before .first-word .ensures, le-ltb _ _ (e1 .if1 .left), ← e2 .before .first-word2 .ensures, le-ltb _ _ (e2 .if2 .left), ← e3 .before .first-malformed .ensures, le-ltb _ _ (e3 .if3 .left), lt-ltb _ p (e4 .if4 .left), le-ltb _ p (c .if5 .taken)))
+
+returns-6 : tie.Need-returns-6
+returns-6 c =
+    let f = c .before .before .before .before in
+    let e5 = f .before .before .before in
+    let e4 = e5 .before in
+    let e3 = e4 .before in
+    let e2 = e3 .before .before in
+    let e1 = e2 .before .before in
+    rw (← e1 .before .first-word .ensures, le-ltb _ _ (e1 .if1 .left), ← e2 .before .first-word2 .ensures, le-ltb _ _ (e2 .if2 .left), ← e3 .before .first-malformed .ensures, le-ltb _ _ (e3 .if3 .left), lt-ltb _ p (e4 .if4 .left), lt-ltb _ p (e5 .if5 .left))
+    (f .finish .ensures)
+
+pub table-words-spec : {M : Type 1} → statement M
+table-words-spec =
+    tie.close
+    (tie.spec
+    (λ c κs. search needs)
+    (λ c. search needs)
+    returns
+    (λ c κs. search needs)
+    (λ c. search needs)
+    returns-2
+    (λ c κs. search needs)
+    (λ c. search needs)
+    returns-3
+    returns-4
+    returns-5
+    (λ c. search needs)
+    (λ c. search needs)
+    (λ c κs. search needs)
+    (λ c. search needs)
+    (λ c. search needs)
+    returns-6)

@@ -1,0 +1,28 @@
+// A run to its end: the tables filled, or all zero.
+use crate::run::run;
+use crate::write::clear;
+use answer::Answer;
+use answer::four_numbers;
+ghost use lib.ListN.{length};
+ghost use Rattle.tabler.specs.Ends.{runOf, Fitting, Tabling};
+
+// 9 to 11 leave both tables all zero.
+pub fn finish(
+    program: &[u8],
+    memory: &[u8],
+    pc: u32,
+    fp: u32,
+    exec: &mut [u8],
+    ext: &mut [u8],
+) -> Answer
+    requires { ⌜ Fitting (length (now program)) (length (now memory)) (length (now exec)) (length (now ext)) ⌝ }
+    ensures { λ r. ⌜ Tabling (now (program .entry)) (now (memory .entry)) pc fp (now (exec .entry)) (now (ext .entry)) (runOf (now (program .entry)) (now (memory .entry)) pc fp (now (exec .entry)) (now (ext .entry))) (now (exec .exit)) (now (ext .exit)) r ⌝ }
+{
+    let answer = run(program, memory, pc, fp, exec, ext);
+    let numbers = four_numbers(answer);
+    if numbers.verdict != 0 {
+        clear(exec);
+        clear(ext);
+    }
+    answer
+}
