@@ -17,7 +17,7 @@ use Rattle.judged.specs.Judged.{pushBalanced, pullBalanced, bus}
 use Rattle.judged.specs.Refusal.{Equal}
 use Rattle.judged.proofs.Stages.{stage}
 use Rattle.judged.proofs.StageLaws.{tuples-pass}
-use Rattle.judge.specs.Stages.{given, tables}
+use Rattle.rules.specs.Sizes.{given, tables}
 
 -- a row that counts n times, as the code finds it, and its tuple
 module _ (g : Given) (t : Tables) (n row : ℕ) (is : n ≡ row) (σ tuple : Tuple) (same : σ ≡ tuple) where

@@ -17,7 +17,7 @@ use Rattle.rules.specs.Given.{either}
 use Rattle.rules.specs.Bus.{Tuple, sameTuple, pushed, pushes, pulled, pulls, total, pushedTo, pulledTo, instructionOf}
 use Rattle.judged.specs.First.{first}
 use Rattle.judged.proofs.FirstLaws.{is-first}
-use Rattle.judge.specs.Stages.{given, tables}
+use Rattle.rules.specs.Sizes.{given, tables}
 use Rattle.judge.specs.Bus.{idle, InOrder, pushesOf, pullsOf}
 
 -- rows that add nothing leave the sum

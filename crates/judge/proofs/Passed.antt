@@ -23,7 +23,8 @@ use Rattle.judged.specs.Judged.{isWord, firstWord, firstMalformed, execRulesAt,
 use Rattle.judged.proofs.Cases.{is-true}
 use Rattle.judged.proofs.FirstLaws.{first-past}
 use Rattle.judged.proofs.RuleLaws.{failing-holds, exec-numbered, ext-numbered}
-use Rattle.judge.specs.Stages.{given, tables, WellFormed}
+use Rattle.rules.specs.Sizes.{given, tables}
+use Rattle.judge.specs.Stages.{WellFormed}
 use Rattle.judge.specs.Bus.{Formed, Flagged}
 
 pub all-words : (bytes : List ℕ) (m : ℕ) → m ≡ firstWord bytes → length bytes / 4 ≤ m → Words bytes

@@ -9,7 +9,7 @@ use Rattle.rows.specs.Rows.{execAt, extAt}
 use Rattle.rows.specs.declared.Ext.{Ext}
 use Rattle.rules.specs.Given.{zero?, either}
 use Rattle.rules.specs.Bus.{Tuple, sameTuple, pushed, pushes, pulled, pulls, pushedTo, pulledTo, instructionOf}
-use Rattle.judge.specs.Stages.{given, tables}
+use Rattle.rules.specs.Sizes.{given, tables}
 use Rattle.judge.specs.declared.Sent.{Sent}
 
 -- the code's tuple

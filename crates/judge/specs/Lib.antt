@@ -1,5 +1,2 @@
-pub mod Memory
-pub mod Parts
-pub mod ExtParts
 pub mod Stages
 pub mod Bus

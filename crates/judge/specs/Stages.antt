@@ -7,24 +7,8 @@ use lib.ListN.{length}
 use Rattle.form.specs.Form.{wellFormed}
 use Rattle.form.specs.Instruction.{instructionAt}
 use Rattle.answer.specs.declared.Answer.{Answer}
-use Rattle.rules.specs.Given.{Given, Tables, either}
-use Rattle.rules.specs.Sizes.{Parts, programFits, memoryFits, execFits, extFits, givenOf, tablesOf}
+use Rattle.rules.specs.Sizes.{given, tables}
 use Rattle.judged.specs.Judged.{words, instructions, start, execution, extension, bus}
-
--- the lowest part of bad length, 0 where all four fit
-abbrev pub badPart : ℕ → ℕ → ℕ → ℕ → ℕ
-badPart program memory exec ext =
-    either (programFits program) (either (memoryFits memory) (either (execFits exec) (either (extFits ext) 0 4) 3) 2) 1
-
--- the bytes that a stage is handed, as what the constraints speak of; what it does not look at is empty
-abbrev pub handed : List ℕ → List ℕ → List ℕ → List ℕ → Parts
-handed program memory exec ext = record { program = program; memory = memory; exec = exec; ext = ext; pc = 0; fp = 0 }
-
-abbrev pub given : List ℕ → List ℕ → Given
-given program memory = givenOf (handed program memory [] [])
-
-abbrev pub tables : List ℕ → List ℕ → Tables
-tables exec ext = tablesOf (handed [] [] exec ext)
 
 -- a length that leaves every place in 32 bits, as each that fits does
 abbrev pub Short : List ℕ → Type 0

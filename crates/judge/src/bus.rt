@@ -6,7 +6,8 @@ use answer::Answer;
 ghost use mathlib.Core.Path.{_≡_};
 ghost use mathlib.Core.List.{[]};
 ghost use Rattle.judged.specs.Judged.{bus};
-ghost use Rattle.judge.specs.Stages.{given, tables, Short};
+ghost use Rattle.rules.specs.Sizes.{given, tables};
+ghost use Rattle.judge.specs.Stages.{Short};
 ghost use Rattle.judge.specs.Bus.{Formed, Flagged};
 
 fn counted(program: &[u8], exec: &[u8], ext: &[u8]) -> Answer

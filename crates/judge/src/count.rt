@@ -16,7 +16,7 @@ ghost use Prim.Native.Nat.{_/_, _<_, _≤_};
 ghost use lib.ListN.{length};
 ghost use Rattle.rules.specs.Bus.{pushedTo, pulledTo, balanced};
 ghost use Rattle.judged.specs.Judged.{pushBalanced, pullBalanced, firstPush, firstPull};
-ghost use Rattle.judge.specs.Stages.{given, tables};
+ghost use Rattle.rules.specs.Sizes.{given, tables};
 ghost use Rattle.judge.specs.Bus.{tupleOf, Formed, Flagged, pushesOf, pullsOf};
 
 // How often execution row r pushes a tuple.

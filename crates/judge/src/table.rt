@@ -1,6 +1,6 @@
 // One walk over each table: the first row with a rule that fails.
-use crate::execution::exec_failing;
-use crate::extension::ext_failing;
+use checks::exec_failing;
+use checks::ext_failing;
 use form::instruction_at;
 use rows::exec_row;
 use rows::ext_row;
@@ -10,7 +10,7 @@ ghost use Prim.Native.Nat.{_/_, _<_};
 ghost use lib.ListN.{length};
 ghost use Rattle.rules.specs.Given.{next};
 ghost use Rattle.judged.specs.Judged.{execFailing, extFailing, firstExec, firstExt};
-ghost use Rattle.judge.specs.Stages.{given, tables};
+ghost use Rattle.rules.specs.Sizes.{given, tables};
 
 // The row paired with row r of n: the next one, and the last with itself.
 fn paired(n: usize, r: usize) -> usize

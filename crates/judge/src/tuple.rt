@@ -1,6 +1,6 @@
 // Tuples of the bus: what a row pushes or pulls, and how often.
 use crate::Sent;
-use crate::execution::selected;
+use checks::selected;
 use form::Instruction;
 use form::instruction_at;
 use rows::Exec;
@@ -18,7 +18,7 @@ ghost use Rattle.form.specs.Form.{wellFormed};
 ghost use Rattle.rows.specs.Rows.{extAt};
 ghost use Rattle.rules.specs.Given.{either};
 ghost use Rattle.rules.specs.Bus.{sameTuple, pushed, pushes, pulled, pulls, instructionOf};
-ghost use Rattle.judge.specs.Stages.{given, tables};
+ghost use Rattle.rules.specs.Sizes.{given, tables};
 ghost use Rattle.judge.specs.Bus.{tupleOf, Formed, Flags, Flagged};
 
 fn wide(x: u32) -> u64

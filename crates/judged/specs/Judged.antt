@@ -24,13 +24,11 @@ abbrev pub refused : ℕ → ℕ → Answer → Answer → Answer
 refused found count a b = choose (ltb found count) a b
 
 -- 1 SIZE: the lowest part of bad length
-abbrev pub sizes : Parts → Answer → Answer
-sizes q then =
-    choose (programFits (length (q .program)))
-    (choose (memoryFits (length (q .memory)))
-    (choose (execFits (length (q .exec)))
-    (choose (extFits (length (q .ext))) then (Size 4 0))
-    (Size 3 0))
+abbrev pub sizes : ℕ → ℕ → ℕ → ℕ → Answer → Answer
+sizes program memory exec ext then =
+    choose (programFits program)
+    (choose (memoryFits memory)
+    (choose (execFits exec) (choose (extFits ext) then (Size 4 0)) (Size 3 0))
     (Size 2 0))
     (Size 1 0)
 
@@ -99,7 +97,7 @@ bus g t = refused (firstPush g t) (t .height) (Bus 3 (firstPush g t)) (refused (
 
 unfoldable pub judgeOf : Parts → Answer
 judgeOf q =
-    sizes q
+    sizes (length (q .program)) (length (q .memory)) (length (q .exec)) (length (q .ext))
     (words 1 (q .program)
     (words 2 (q .memory)
     (words 3 (q .exec)

@@ -1,7 +1,7 @@
 -- Document 01, "Layouts"; draft 0.6.0, 2.2 and 3.1: the lengths that the four parts may have, and what their bytes are as numbered words.
 use Prim.Native.Nat.{ℕ, zero, suc, _*_, _/_, _%_, _^_}
 use mathlib.Core.Bool.{Bool, true, false, _&&_, _||_}
-use mathlib.Core.List.{List}
+use mathlib.Core.List.{List, []}
 use lib.ListN.{length}
 use lib.Dec.{leb, eqb}
 use Rattle.word.specs.Bytes.{wordAt}
@@ -64,3 +64,13 @@ tablesOf q =
       extHeight = length (q .ext) / 120;
       ext = λ r. extAt (q .ext) (120 * r);
     }
+
+-- a program and a memory, or two tables, by themselves
+abbrev pub handed : List ℕ → List ℕ → List ℕ → List ℕ → Parts
+handed program memory exec ext = record { program = program; memory = memory; exec = exec; ext = ext; pc = 0; fp = 0 }
+
+abbrev pub given : List ℕ → List ℕ → Given
+given program memory = givenOf (handed program memory [] [])
+
+abbrev pub tables : List ℕ → List ℕ → Tables
+tables exec ext = tablesOf (handed [] [] exec ext)

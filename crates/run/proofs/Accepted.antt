@@ -13,7 +13,8 @@ use Rattle.machine.specs.Step.{Outcome, goes, stuck, step}
 use Rattle.machine.specs.Run.{StayingRun, after, proceed}
 use Rattle.tables.specs.Rows.{stateAt, reached}
 use Rattle.tables.specs.Groups.{filled, lengthAt}
-use Rattle.tabled.specs.Tabled.{choose, sameState, onStep, running}
+use Rattle.judged.specs.Judged.{choose}
+use Rattle.tabled.specs.Tabled.{sameState, onStep, running}
 
 -- a choice between what goes on and a refusal, accepted
 pub passed : (b : Bool) (a r : Answer) → (r ≡ Accepted → ⊥) → choose b a r ≡ Accepted → (b ≡ true) × (a ≡ Accepted)

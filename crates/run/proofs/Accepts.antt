@@ -13,7 +13,8 @@ use Rattle.machine.specs.Step.{Outcome, goes, step}
 use Rattle.machine.specs.Run.{StayingRun}
 use Rattle.tables.specs.Groups.{filled, lengthAt}
 use Rattle.written.proofs.Places.{filled-grows}
-use Rattle.tabled.specs.Tabled.{choose, sameState, onStep, running}
+use Rattle.judged.specs.Judged.{choose}
+use Rattle.tabled.specs.Tabled.{sameState, onStep, running}
 
 same-itself : (s : State) → sameState s s ≡ true
 same-itself s = rw (eq-eqb (s .pc) (s .pc) refl, eq-eqb (s .fp) (s .fp) refl)

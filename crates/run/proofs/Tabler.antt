@@ -22,7 +22,8 @@ use Rattle.tables.specs.Rows.{stateAt}
 use Rattle.tables.specs.Groups.{filled}
 use Rattle.run.specs.Runs.{Input, Permitted, LegalRun, Spare, machine, start, given}
 use Rattle.run.proofs.Lengths.{whole}
-use Rattle.tabled.specs.Tabled.{choose, tableOf, firstWord, firstMalformed, running}
+use Rattle.judged.specs.Judged.{choose, firstWord, firstMalformed}
+use Rattle.tabled.specs.Tabled.{tableOf, running}
 use Rattle.run.proofs.Accepts.{running-accepts}
 use Rattle.run.proofs.Accepted.{passed, accepted-runs, Runs}
 
@@ -71,7 +72,7 @@ accepts i permitted height extHeight state legal spare =
       is-true (extFits (120 * extHeight)) (spare .permitted),
       no-first (i .program) (permitted .program-words),
       no-first (i .memory) (permitted .memory-words),
-      le-ltb (firstMalformed (i .program)) (length (i .program) / 48) (omega (arith, malformed)),
+      le-ltb (firstMalformed (given i)) (length (i .program) / 48) (omega (arith, malformed)),
       lt-ltb (i .pc) p (permitted .pc-word),
       lt-ltb (i .fp) p (permitted .fp-word),
       heights,
@@ -106,7 +107,7 @@ accepted-only i height extHeight e =
     let s4 = passed (extFits (120 * extHeight)) _ (Size 4 0) (not-size 4 0) (s3 .1) in
     let w1 = skipped (ltb (firstWord (i .program)) (length (i .program) / 4)) _ _ (not-word 1 _) (s4 .1) in
     let w2 = skipped (ltb (firstWord (i .memory)) (length (i .memory) / 4)) _ _ (not-word 2 _) (w1 .1) in
-    let k = skipped (ltb (firstMalformed (i .program)) (length (i .program) / 48)) _ _ (not-instruction _) (w2 .1) in
+    let k = skipped (ltb (firstMalformed (given i)) (length (i .program) / 48)) _ _ (not-instruction _) (w2 .1) in
     let b = passed (ltb (i .pc) p && ltb (i .fp) p) _ Start not-start (k .1) in
     let starts = both (ltb (i .pc) p) (ltb (i .fp) p) (b .0) in
     let run = accepted-runs (machine i) _ _ (start i) 0 0 (b .1) in

@@ -1,11 +1,10 @@
 -- Document 01, "The tabler" and "Verdicts" 1 to 4 and 9 to 11: the tabler's answer, and both tables at return.
 use Prim.Native.Nat.{ℕ, zero, suc, _+_, _-_, _*_, _/_}
-use mathlib.Core.Bool.{Bool, true, false, _&&_}
-use mathlib.Core.List.{List}
+use mathlib.Core.Bool.{Bool, _&&_}
+use mathlib.Core.List.{List, []}
 use lib.ListN.{length, replicate}
 use lib.Dec.{leb, ltb, eqb}
 use Rattle.word.specs.Word.{p}
-use Rattle.form.specs.Form.{wellFormed}
 use Rattle.form.specs.Instruction.{instructionAt}
 use Rattle.answer.specs.declared.Answer.{Answer}
 use Rattle.answer.specs.declared.Answer.the-variants.{
@@ -29,12 +28,8 @@ use Rattle.machine.specs.Step.{Outcome, goes, stuck, step}
 use Rattle.tables.specs.Rows.{stateAt}
 use Rattle.tables.specs.Groups.{lengthAt}
 use Rattle.tables.specs.Bytes.{execTable, extTable}
-use Rattle.rules.specs.Sizes.{programFits, memoryFits, execFits, extFits, wordOf}
-use Rattle.judged.specs.First.{first}
-
-abbrev pub choose : Bool → Answer → Answer → Answer
-choose true a b = a
-choose false a b = b
+use Rattle.rules.specs.Sizes.{wordOf, given}
+use Rattle.judged.specs.Judged.{choose, sizes, words, instructions}
 
 -- the machine of a program's and a memory's bytes
 abbrev pub machineOf : List ℕ → List ℕ → Machine
@@ -59,37 +54,18 @@ running m room (suc n) s r filled =
     onStep (step m s) r
     (λ t. choose (leb (filled + lengthAt m s + 1) room) (running m room n t (suc r) (filled + lengthAt m s)) (Room r))
 
--- 1 SIZE, by part; 2 WORD in program and memory; 3 INSTRUCTION; 4 START: a start number at or above p
-abbrev pub sizes : ℕ → ℕ → ℕ → ℕ → Answer → Answer
-sizes program memory exec ext then =
-    choose (programFits program)
-    (choose (memoryFits memory)
-    (choose (execFits exec) (choose (extFits ext) then (Size 4 0)) (Size 3 0))
-    (Size 2 0))
-    (Size 1 0)
-
-abbrev pub firstWord : List ℕ → ℕ
-firstWord bytes = first (λ k. ltb (wordOf bytes k) p) 0 (length bytes / 4)
-
-abbrev pub words : ℕ → List ℕ → Answer → Answer
-words part bytes then = choose (ltb (firstWord bytes) (length bytes / 4)) (Word part (firstWord bytes)) then
-
-abbrev pub firstMalformed : List ℕ → ℕ
-firstMalformed program = first (λ i. wellFormed (instructionAt program (48 * i))) 0 (length program / 48)
-
-abbrev pub instructions : List ℕ → Answer → Answer
-instructions program then = choose (ltb (firstMalformed program) (length program / 48)) (Instruction (firstMalformed program)) then
-
+-- 4 START: a start number at or above p
 abbrev pub startFits : ℕ → ℕ → Answer → Answer
 startFits pc fp then = choose (ltb pc p && ltb fp p) then Start
 
--- the tabler's answer: program, memory, start, and the lengths of both tables in bytes
+-- the tabler's answer: program, memory, start, and the lengths of both tables in bytes. 1 SIZE, 2 WORD in program and memory and 3 INSTRUCTION
+-- are tested as the judge tests them
 unfoldable pub tableOf : List ℕ → List ℕ → ℕ → ℕ → ℕ → ℕ → Answer
 tableOf program memory pc fp exec ext =
     sizes (length program) (length memory) exec ext
     (words 1 program
     (words 2 memory
-    (instructions program
+    (instructions (given program [])
     (startFits pc fp
     (running (machineOf program memory) (ext / 120) (exec / 32 - 1) (record { pc = pc; fp = fp }) 0 0)))))
 

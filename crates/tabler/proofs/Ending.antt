@@ -13,7 +13,8 @@ use Rattle.answer.specs.declared.Answer.{Answer}
 use Rattle.machine.specs.Machine.{Machine, State}
 use Rattle.machine.specs.Step.{Outcome, goes, stuck, step}
 use Rattle.tables.specs.Groups.{lengthAt}
-use Rattle.tabled.specs.Tabled.{choose, sameState, onStep, machineOf, running, heldAfter, tableOf, execAfter, extAfter}
+use Rattle.judged.specs.Judged.{choose}
+use Rattle.tabled.specs.Tabled.{sameState, onStep, machineOf, running, heldAfter, tableOf, execAfter, extAfter}
 use Rattle.tabler.specs.Ends.{runOf, Ended, Tabling}
 use Rattle.tabler.specs.Moves.{at}
 

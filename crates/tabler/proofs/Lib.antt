@@ -3,7 +3,4 @@ pub mod Lent
 pub mod Standing
 pub mod Going
 pub mod Running
-pub mod Walks
-pub mod Powers
-pub mod Fits
 pub mod Ending

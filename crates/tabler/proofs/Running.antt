@@ -23,7 +23,8 @@ use Rattle.machine.specs.Step.{goes, stuck, step}
 use Rattle.tables.specs.Bytes.{rowsOf, execTable, extTable}
 use Rattle.tables.specs.Groups.{padding, lengthOf, lengthAt, stepRow, extRowOf, filled}
 use Rattle.tables.specs.Rows.{execRowOf, formAt, reached, stateAt}
-use Rattle.tabled.specs.Tabled.{choose, sameState, running}
+use Rattle.judged.specs.Judged.{choose}
+use Rattle.tabled.specs.Tabled.{sameState, running}
 use Rattle.tabler.specs.Ends.{runOf, Ended}
 use Rattle.tabler.specs.Placed.{execBytes, extBytes, placed}
 use Rattle.tabler.proofs.Lent.{placed-length, rest-length, rows-on, rows-length, rows-same}

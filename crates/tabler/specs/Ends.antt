@@ -1,30 +1,14 @@
 -- How the tabler's stages end: the answer, and both tables at return.
 use mathlib.Core.List.{List}
 use mathlib.Core.Path.{_≡_}
-use Prim.Native.Nat.{ℕ, _-_, _*_, _/_, _%_, _≤_, _^_}
+use Prim.Native.Nat.{ℕ, _-_, _/_}
 use lib.ListN.{length}
 use Rattle.answer.specs.declared.Answer.the-variants.{Accepted}
 use Rattle.answer.specs.declared.Answer.{Answer}
-use Rattle.rules.specs.Given.{either}
-use Rattle.rules.specs.Sizes.{programFits, memoryFits, execFits, extFits}
 use Rattle.tables.specs.Bytes.{execTable, extTable}
 use Rattle.tables.specs.Rows.{stateAt}
 use Rattle.tabled.specs.Tabled.{machineOf, running, heldAfter}
 use Rattle.tabler.specs.Moves.{at}
-
--- the lowest part of bad length, 0 where all four fit
-abbrev pub badPart : ℕ → ℕ → ℕ → ℕ → ℕ
-badPart program memory exec ext =
-    either (programFits program) (either (memoryFits memory) (either (execFits exec) (either (extFits ext) 0 4) 3) 2) 1
-
--- the bounds that the four lengths have once they are tested
-pub record Fitting (program memory exec ext : ℕ) : Type 0 where
-  pub program-short : program ≤ 48 * 2 ^ 20
-  pub memory-short : memory ≤ 2 ^ 31
-  pub exec-rows : exec % 32 ≡ 0
-  pub exec-some : 32 ≤ exec
-  pub exec-short : exec ≤ 2 ^ 30
-  pub ext-rows : ext % 120 ≡ 0
 
 -- what the tabler is handed: the start and the bytes, those of the tables as they are at entry
 module _ (program memory : List ℕ) (pc fp : ℕ) (exec₀ ext₀ : List ℕ) where

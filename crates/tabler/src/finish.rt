@@ -4,7 +4,8 @@ use crate::write::clear;
 use answer::Answer;
 use answer::four_numbers;
 ghost use lib.ListN.{length};
-ghost use Rattle.tabler.specs.Ends.{runOf, Fitting, Tabling};
+ghost use Rattle.parts.specs.Parts.{Fitting};
+ghost use Rattle.tabler.specs.Ends.{runOf, Tabling};
 
 // 9 to 11 leave both tables all zero.
 pub fn finish(

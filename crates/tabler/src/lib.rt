@@ -5,14 +5,12 @@ mod group;
 mod reads;
 mod row;
 mod run;
-mod size;
 mod step;
 mod tests;
-mod walk;
 mod write;
 
 use answer::Answer;
-use size::bad_part;
+use parts::bad_part;
 use tests::table_words;
 ghost use mathlib.Core.Path.{_≡_};
 ghost use lib.ListN.{length};

@@ -8,7 +8,8 @@ use crate::write::put_row;
 use crate::write::put_rows;
 use answer::Answer;
 ghost use lib.ListN.{length};
-ghost use Rattle.tabler.specs.Ends.{Fitting, Ended};
+ghost use Rattle.parts.specs.Parts.{Fitting};
+ghost use Rattle.tabler.specs.Ends.{Ended};
 
 // Stuck or no room at a row, open at the last, or both tables filled. A refusal leaves them half written.
 pub fn run(

@@ -1,12 +1,16 @@
 // The tabler's tests 2 to 4, and the run once they pass.
 use crate::finish::finish;
-use crate::walk::first_malformed;
-use crate::walk::first_word;
 use answer::Answer;
+use parts::first_malformed;
+use parts::first_word;
 use word::P;
 ghost use lib.ListN.{length};
-ghost use Rattle.tabled.specs.Tabled.{words, instructions, startFits};
-ghost use Rattle.tabler.specs.Ends.{runOf, Fitting, Tabling};
+ghost use mathlib.Core.List.{[]};
+ghost use Rattle.rules.specs.Sizes.{given};
+ghost use Rattle.judged.specs.Judged.{words, instructions};
+ghost use Rattle.parts.specs.Parts.{Fitting};
+ghost use Rattle.tabled.specs.Tabled.{startFits};
+ghost use Rattle.tabler.specs.Ends.{runOf, Tabling};
 
 // 2 to 4 change no byte.
 pub fn table_words(
@@ -18,7 +22,7 @@ pub fn table_words(
     ext: &mut [u8],
 ) -> Answer
     requires { ⌜ Fitting (length (now program)) (length (now memory)) (length (now exec)) (length (now ext)) ⌝ }
-    ensures { λ r. ⌜ Tabling (now (program .entry)) (now (memory .entry)) pc fp (now (exec .entry)) (now (ext .entry)) (words 1 (now (program .entry)) (words 2 (now (memory .entry)) (instructions (now (program .entry)) (startFits pc fp (runOf (now (program .entry)) (now (memory .entry)) pc fp (now (exec .entry)) (now (ext .entry))))))) (now (exec .exit)) (now (ext .exit)) r ⌝ }
+    ensures { λ r. ⌜ Tabling (now (program .entry)) (now (memory .entry)) pc fp (now (exec .entry)) (now (ext .entry)) (words 1 (now (program .entry)) (words 2 (now (memory .entry)) (instructions (given (now (program .entry)) []) (startFits pc fp (runOf (now (program .entry)) (now (memory .entry)) pc fp (now (exec .entry)) (now (ext .entry))))))) (now (exec .exit)) (now (ext .exit)) r ⌝ }
 {
     let w = first_word(program);
     if w < program.len() / 4 {

@@ -5,7 +5,7 @@ use lib.ListN.{length}
 use Rattle.rules.specs.Sizes.{programFits, memoryFits, execFits, extFits}
 use Rattle.tabled.specs.Tabled.{tableOf}
 use Rattle.tabler.proofs.Ending.{unchanged, three}
-use Rattle.tabler.proofs.Fits.{bad-named, Fit, all-fit, fitting}
+use Rattle.parts.proofs.Fits.{bad-named, Fit, all-fit, fitting}
 use Rattle.tabler.proofs.table.Statement.{statement}
 use Rattle.tabler.proofs.table.Tie as tie
 

@@ -1,6 +1,6 @@
 -- Pushes and pulls that match in order leave no tuple unequal.
 use mathlib.Core.List.{[]}
-use Rattle.judge.specs.Stages.{given, tables}
+use Rattle.rules.specs.Sizes.{given, tables}
 use Rattle.judge.proofs.Balances.{all-equal}
 use borrow.Author.Needs.{needs}
 use Rattle.judge.proofs.bus.bus_answer.Statement.{statement}

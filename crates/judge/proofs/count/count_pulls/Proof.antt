@@ -5,7 +5,7 @@ use mathlib.Core.List.{[]}
 use Prim.Native.Nat.{_*_, _-_, _/_, _≤_}
 use native.Mathlib.Omega.{arith}
 use lib.ListN.{length}
-use Rattle.judge.specs.Stages.{tables}
+use Rattle.rules.specs.Sizes.{tables}
 use Rattle.rules.specs.Bus.{pulledTo}
 use Rattle.judge.specs.Bus.{tupleOf, pullsOf}
 use Rattle.judge.proofs.Orders.{one-more}

@@ -8,7 +8,7 @@ use lib.ListN.{length}
 use Rattle.rules.specs.Bus.{pulls}
 use Rattle.judged.specs.First.{first}
 use Rattle.judge.specs.Bus.{idle}
-use Rattle.judge.proofs.Walks.{Walk, begins-at, goes-past, finds, finds-none}
+use Rattle.parts.proofs.Walks.{Walk, begins-at, goes-past, finds, finds-none}
 use Rattle.judge.proofs.in_order.next_pull.Statement.{statement}
 use Rattle.judge.proofs.in_order.next_pull.Tie as tie
 

@@ -8,8 +8,8 @@ use native.Mathlib.Omega.{arith}
 use lib.ListN.{length}
 use Rattle.rules.specs.Given.{zero?}
 use Rattle.judged.specs.Judged.{extFailing, firstExt}
-use Rattle.judge.specs.Stages.{given, tables}
-use Rattle.judge.proofs.Walks.{Walk, begins, goes-past, finds, finds-none}
+use Rattle.rules.specs.Sizes.{given, tables}
+use Rattle.parts.proofs.Walks.{Walk, begins, goes-past, finds, finds-none}
 use Rattle.judge.proofs.table.first_ext.Statement.{statement}
 use Rattle.judge.proofs.table.first_ext.Tie as tie
 

@@ -1,0 +1,29 @@
+-- With no operation rules 6 to 8 say nothing; else each call gives the definition's part.
+use borrow.Author.Tests.{eqb-true}
+use mathlib.Core.Path.{_≡_, _∙_}
+use mathlib.Core.List.{[], _∷_}
+use lib.Dec.{eqb}
+use Rattle.form.proofs.Cases.{each}
+use Rattle.rules.specs.Given.{either, zeroElement?}
+use Rattle.checks.specs.ExtParts.{resultOf}
+use Rattle.checks.proofs.Shut.{no-operation}
+use borrow.Author.Needs.{needs}
+use Rattle.checks.proofs.accumulation.accumulates.Statement.{statement}
+use Rattle.checks.proofs.accumulation.accumulates.Tie as tie
+
+returns : tie.Need-returns
+returns c =
+    let start = c .before .before .before .before .before .before .before .before in
+    let first-of = c .before .before .before .before .first-of in
+    let x = start .args .x in
+    let off = each (eqb (x .add) 0) (eqb (x .mul) 0 ∷ eqb (x .peq) 0 ∷ []) (c .if1 .taken) in
+    let rule-9 : first-of .result ≡ either (zeroElement? (resultOf (x .start) (x .comp) (x .res))) (start .args .rest) 9 = cc in
+    rule-9 ∙ no-operation x (start .args .y) _ _ _ (eqb-true _ _ (off .0)) (eqb-true _ _ (off .1 .0)) (eqb-true _ _ (off .1 .1))
+
+returns-2 : tie.Need-returns-2
+returns-2 c = cc
+
+pub accumulates-spec : {M : Type 1} → statement M
+accumulates-spec =
+    tie.close
+    (tie.spec (λ c κs. search needs) (λ c κs. search needs) returns (λ c κs. search needs) returns-2)

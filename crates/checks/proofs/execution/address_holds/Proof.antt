@@ -1,0 +1,11 @@
+-- Each call gives the definition's part.
+use borrow.Author.Needs.{needs}
+use Rattle.checks.proofs.execution.address_holds.Statement.{statement}
+use Rattle.checks.proofs.execution.address_holds.Tie as tie
+
+returns : tie.Need-returns
+returns c = cc
+
+pub address-holds-spec : {M : Type 1} → statement M
+address-holds-spec =
+    tie.close (tie.spec (λ c κs. search needs) (λ c κs. search needs) (λ c κs. search needs) (λ c κs. search needs) returns)

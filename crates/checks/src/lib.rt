@@ -1,0 +1,22 @@
+// The rules of one row: the first that fails on an execution row, or on an extension row.
+mod accumulation;
+mod execution;
+mod extension;
+mod lookup;
+
+pub use execution::exec_failing;
+pub use execution::selected;
+pub use extension::ext_failing;
+ghost use mathlib.Core.Path.{_≡_};
+ghost use Rattle.rules.specs.Given.{zero?};
+ghost use Rattle.word.specs.Word.{_*ₚ_};
+
+// A gate times what must be 0 where it is open. Most gates are shut, and then nothing is computed.
+fn gated(gate: u32, difference: u32) -> bool
+    ensures { λ r. ⌜ r ≡ zero? (gate *ₚ difference) ⌝ }
+{
+    if gate == 0 {
+        return true;
+    }
+    word::mul(gate, difference) == 0
+}

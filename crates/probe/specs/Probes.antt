@@ -1,0 +1,6 @@
+-- What the tests hand to the maker and the label writer: a recipe as three numbers.
+use Prim.Native.Nat.{ℕ}
+use Rattle.label.specs.declared.Recipe.{Recipe}
+
+abbrev pub recipeOf : ℕ → ℕ → ℕ → Recipe
+recipeOf seed m n = record { seed = seed; m = m; n = n }

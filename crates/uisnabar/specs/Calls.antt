@@ -1,0 +1,43 @@
+-- Document 01, "Draws, recipe, label", its last paragraph: what the two exported functions return, and every byte they leave.
+use Prim.Native.Nat.{ℕ, _/_, _%_, _^_}
+use mathlib.Core.Path.{_≡_}
+use mathlib.Core.Bool.{Bool, cond, _&&_}
+use mathlib.Core.List.{List, [], _∷_}
+use lib.Dec.{eqb}
+use lib.ListN.{length}
+use Rattle.rows.specs.Rows.{putRow}
+use Rattle.answer.specs.declared.Answer.{Answer}
+use Rattle.judged.specs.Judged.{judgeOf}
+use Rattle.answer.specs.declared.Answer.the-variants.{Buffer}
+use Rattle.label.specs.declared.Recipe.{Recipe}
+use Rattle.label.specs.declared.Reading.{Reading}
+use Rattle.label.specs.Reading.{Reads}
+use Rattle.reply.specs.Reply.{verdictOf, wordsOf}
+
+-- the judge's answer to what a call hands in
+abbrev pub answerTo : List ℕ → List ℕ → ℕ → ℕ → List ℕ → List ℕ → Answer
+answerTo program memory pc fp exec ext =
+    judgeOf (record { program = program; memory = memory; exec = exec; ext = ext; pc = pc; fp = fp })
+
+-- seed (8 bytes), m and n (4 each)
+abbrev pub recipeWords : Recipe → List ℕ
+recipeWords r = r .seed % 2 ^ 32 ∷ r .seed / 2 ^ 32 ∷ r .m ∷ r .n ∷ []
+
+-- ANSWER covers either buffer
+abbrev pub bothFit : List ℕ → List ℕ → Bool
+bothFit answer recipe = eqb (length answer) 16 && eqb (length recipe) 16
+
+abbrev pub accepted : Answer → Bool
+accepted a = eqb (verdictOf a) 0
+
+-- a buffer where a test holds and as it was where it doesn't
+abbrev pub held : Bool → List ℕ → List ℕ → List ℕ
+held fit old words = cond fit (putRow old 16 words) old
+
+-- a call of the label reader: the recipe is written only on acceptance, and ANSWER writes nothing anywhere
+pub record LabelCall (text answer recipe answerAfter recipeAfter : List ℕ) (returned : ℕ) : Type 0 where
+  pub reading : Reading
+  pub reads : Reads text reading
+  pub verdict : returned ≡ cond (bothFit answer recipe) (verdictOf (reading .answer)) (verdictOf Buffer)
+  pub answered : answerAfter ≡ held (bothFit answer recipe) answer (wordsOf (reading .answer))
+  pub written : recipeAfter ≡ held (bothFit answer recipe && accepted (reading .answer)) recipe (recipeWords (reading .recipe))

@@ -1,0 +1,66 @@
+// The C library: the judge and the label reader, as include/uisnabar.h declares them.
+use answer::Answer;
+use answer::four_numbers;
+use label::Recipe;
+use label::read_label;
+use reply::put_four;
+use reply::reply;
+ghost use mathlib.Core.Path.{_≡_};
+ghost use Rattle.reply.specs.Reply.{returned, replied};
+ghost use Rattle.uisnabar.specs.Calls.{answerTo, recipeWords, accepted, held, LabelCall};
+
+// The judge. ANSWER comes first, so nothing is judged for a caller who cannot be told.
+#[no_mangle]
+pub extern "C" fn uisnabar_judge(
+    program: &[u8],
+    memory: &[u8],
+    pc: u64,
+    fp: u64,
+    exec: &[u8],
+    ext: &[u8],
+    answer: &mut [u8],
+) -> u32
+    ensures { λ r. ⌜ r ≡ returned (answerTo (now (program .entry)) (now (memory .entry)) pc fp (now (exec .entry)) (now (ext .entry))) (now (answer .entry)) ⌝ }
+    ensures { λ _. ⌜ now (answer .exit) ≡ replied (answerTo (now (program .entry)) (now (memory .entry)) pc fp (now (exec .entry)) (now (ext .entry))) (now (answer .entry)) ⌝ }
+{
+    if answer.len() != 16 {
+        return reply(answer, Answer::Buffer);
+    }
+    let a = judge::judge(program, memory, pc, fp, exec, ext);
+    reply(answer, a)
+}
+
+// The recipe's bytes, where the label was accepted.
+fn put_recipe(recipe: &mut [u8], a: Answer, r: Recipe)
+    ensures { λ _. ⌜ now (recipe .exit) ≡ held (accepted a) (now (recipe .entry)) (recipeWords r) ⌝ }
+{
+    let four = four_numbers(a);
+    if four.verdict == 0 {
+        put_four(
+            recipe,
+            (r.seed % 4294967296) as u32,
+            (r.seed / 4294967296) as u32,
+            r.m,
+            r.n,
+        );
+    }
+}
+
+// The label reader: ANSWER first, for either buffer.
+#[no_mangle]
+pub extern "C" fn uisnabar_label(text: &[u8], answer: &mut [u8], recipe: &mut [u8]) -> u32
+    ensures { λ r. ⌜ LabelCall (now (text .entry)) (now (answer .entry)) (now (recipe .entry)) (now (answer .exit)) (now (recipe .exit)) r ⌝ }
+{
+    let reading = read_label(text);
+    if answer.len() != 16 {
+        return reply(answer, Answer::Buffer);
+    }
+    if recipe.len() != 16 {
+        let other = four_numbers(Answer::Buffer);
+        return other.verdict;
+    }
+    let a = reading.answer;
+    let r = reading.recipe;
+    put_recipe(recipe, a, r);
+    reply(answer, a)
+}

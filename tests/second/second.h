@@ -1,0 +1,62 @@
+/* A second judge, tabler, maker and label reader and writer for leanVM test
+ * tables, written from the documents alone (see README.md).
+ *
+ * No function here keeps state, so all may be called from several threads.
+ * A pointer may be NULL where its length is 0.  Buffers must not overlap. */
+#ifndef SECOND_H
+#define SECOND_H
+
+#include <stddef.h>
+#include <stdint.h>
+
+/* The four numbers of document 01; unnamed ones are 0. */
+typedef struct {
+    uint32_t verdict, part, place, rule;
+} second_answer;
+
+/* What a label names: the maker's seed, memory of 2^m cells, n instructions. */
+typedef struct {
+    uint64_t seed;
+    uint32_t m, n;
+} second_recipe;
+
+/* Judges the two tables of a run that starts at pc, fp.  Writes nothing and
+ * uses no heap: where pushes and pulls do not stand in one order, the bus is
+ * counted tuple by tuple, which takes (pushes + pulls) * (H + K) steps. */
+second_answer second_judge(const uint8_t *program, size_t program_len,
+                           const uint8_t *memory, size_t memory_len,
+                           uint64_t pc, uint64_t fp,
+                           const uint8_t *exec, size_t exec_len,
+                           const uint8_t *ext, size_t ext_len);
+
+/* The same answers; where pushes and pulls do not stand in one order, the
+ * tuples are copied to the heap and sorted. */
+second_answer second_judge_sorted(const uint8_t *program, size_t program_len,
+                                  const uint8_t *memory, size_t memory_len,
+                                  uint64_t pc, uint64_t fp,
+                                  const uint8_t *exec, size_t exec_len,
+                                  const uint8_t *ext, size_t ext_len);
+
+/* Runs the program and fills both tables.  Verdicts 1 to 4 change no byte;
+ * 9, 10 and 11 leave both tables all zero. */
+second_answer second_table(const uint8_t *program, size_t program_len,
+                           const uint8_t *memory, size_t memory_len,
+                           uint64_t pc, uint64_t fp,
+                           uint8_t *exec, size_t exec_len,
+                           uint8_t *ext, size_t ext_len);
+
+/* Fills program (48 * (n + 1) bytes) and memory (4 * 2^m bytes) from a
+ * recipe; a refusal changes no byte. */
+second_answer second_make(second_recipe r, uint8_t *program, size_t program_len,
+                          uint8_t *memory, size_t memory_len);
+
+/* Reads a label; on refusal *out is all 0. */
+second_answer second_read_label(const uint8_t *text, size_t len,
+                                second_recipe *out);
+
+/* Writes a label and its length; on refusal no byte of out changes and
+ * *length is 0.  Bytes of out after the label keep what they held. */
+second_answer second_write_label(second_recipe r, uint8_t *out, size_t len,
+                                 uint32_t *length);
+
+#endif
