@@ -1,4 +1,5 @@
 """Edits of a definition that `run` must refuse: the edited crate is still proved, and `run`, or a crate of theorems below it, is not.
+The last is an edit that the code must refuse: `tabler` is proved to give the answer that `tabled` defines.
 
 In a scratch copy under target/; prints a line for each edit, and 'N passed, M failed'."""
 import pathlib
@@ -10,6 +11,7 @@ import sys
 ROOT = pathlib.Path(__file__).resolve().parent.parent
 SCRATCH = ROOT / "target/mutate"
 RULES = "crates/rules/specs/"
+STUCK_ROOM = "STUCK and ROOM in the other order"
 
 # name, file, what stands there (a line's start, or a piece of it), what is put there
 EDITS = [
@@ -23,7 +25,16 @@ EDITS = [
     ("the last row wrapped to row 0", RULES + "Given.antt", r"^next n r = .*$", "next n r = either (ltb (r + 1) n) (r + 1) 0"),
     ("padding with comp 0", "crates/tables/specs/Groups.antt", r"(?s)(padding cell =.*?)comp = elementAt cell 0", r"\1comp = 0 ∷ 0 ∷ 0 ∷ 0 ∷ 0 ∷ []"),
     ("C not read on an untaken jump", "crates/machine/specs/Step.antt", r"asked 4 \(legal m s \(f \.c\)\)", "asked 4 (legalC m s f (f .kind))"),
+    (
+        STUCK_ROOM,
+        "crates/tabled/specs/Tabled.antt",
+        r"onStep \(step m s\) r\n    \(λ t\. choose \((leb \(filled \+ lengthAt m s \+ 1\) room)\) \((.*)\) \(Room r\)\)$",
+        r"choose (\1) (onStep (step m s) r (λ t. \2)) (Room r)",
+    ),
 ]
+
+# the crate that must refuse an edit, where it is not run
+REFUSER = {STUCK_ROOM: "tabler"}
 
 # what an edit needs beside it
 EXTRA = {
@@ -65,15 +76,16 @@ def prepare():
             name, rest = line.split(":")
             lines[name] = rest.split()
     crates = []
-    needed("run", lines, crates)
+    for name in ("run", "tabler"):
+        needed(name, lines, crates)
     (SCRATCH / "crates").mkdir(parents=True)
     for name in crates:
         shutil.copytree(ROOT / "crates" / name, SCRATCH / "crates" / name, ignore=shutil.ignore_patterns("must-fail"))
     (SCRATCH / "crates.txt").write_text("".join(f"{n}: {' '.join(lines[n])}\n" for n in crates))
-    print("proving run as it stands", flush=True)
-    code, out = rt("check", "run")
+    print("proving run and tabler as they stand", flush=True)
+    code, out = rt("check", "run", "tabler")
     if code != 0:
-        sys.exit(out[-2000:] + "\nrun is not proved as it stands")
+        sys.exit(out[-2000:] + "\nrun or tabler is not proved as it stands")
 
 
 def first_error(out):
@@ -86,10 +98,10 @@ def first_error(out):
 def mutate(name, path, old, new):
     file = SCRATCH / path
     text = file.read_text()
-    edited, times = re.subn(old, new, text, count=1, flags=re.M)
+    edited, times = re.subn(old, new, text, flags=re.M)
     if name in EXTRA:
         edited = edited.replace(EXTRA[name][1], EXTRA[name][2], 1)
-    if times != 1 or edited == text:
+    if times not in (1, 2) or edited == text:
         return False, "the edit found nothing to change"
     file.write_text(edited)
     try:
@@ -97,9 +109,10 @@ def mutate(name, path, old, new):
         code, out = rt("check", crate)
         if code != 0:
             return False, f"{crate} itself is refused: {first_error(out)}"
-        code, out = rt("check", "run")
+        refuser = REFUSER.get(name, "run")
+        code, out = rt("check", refuser)
         if code != 1:
-            return False, f"run was not refused (exit {code})"
+            return False, f"{refuser} was not refused (exit {code})"
         return True, first_error(out)
     finally:
         file.write_text(text)

@@ -47,6 +47,17 @@ static bool balanced(const parts *in, tuple t)
     return pushes == pulls;
 }
 
+static bool pushed(const parts *in, tuple t)
+{
+    tuple other;
+    for (uint64_t i = 0; i < in->exec_rows; i++)
+        if (push_at(in, i, &other) != 0 && same_tuple(t, other))
+            return true;
+    return false;
+}
+
+/* Once every pushed tuple is known to be equal in number, a pulled tuple is
+ * unequal exactly where nothing pushes it. */
 static second_answer count_bus(const parts *in)
 {
     tuple t;
@@ -54,7 +65,7 @@ static second_answer count_bus(const parts *in)
         if (push_at(in, i, &t) != 0 && !balanced(in, t))
             return answer(BUS, 3, i, 0);
     for (uint64_t j = 0; j < in->ext_rows; j++)
-        if (pull_at(in, j, &t) != 0 && !balanced(in, t))
+        if (pull_at(in, j, &t) != 0 && !pushed(in, t))
             return answer(BUS, 4, j, 0);
     return answer(ACCEPTED, 0, 0, 0);
 }

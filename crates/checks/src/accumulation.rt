@@ -1,4 +1,5 @@
 // Rules 6 to 9 of an extension row: what its running result comes to.
+use crate::gated;
 use parts::first_of;
 use rows::Ext;
 use word::difference;
@@ -8,14 +9,20 @@ use word::scale;
 use word::sub;
 use word::sum;
 ghost use mathlib.Core.Path.{_≡_};
+ghost use Rattle.word.specs.Element.{_-ₑ_, _·ₑ_};
 ghost use Rattle.rules.specs.Given.{zeroElement?};
 ghost use Rattle.rules.specs.Extension.{selected, compTail};
-ghost use Rattle.checks.specs.ExtParts.{sumOf, productOf, peqOf, resultOf, operatesThen, accumulatesThen};
+ghost use Rattle.checks.specs.ExtParts.{sumOf, productOf, peqOf, operatesThen, accumulatesThen};
 
-fn is_zero(a: [u32; 5]) -> bool
-    ensures { λ r. ⌜ r ≡ zeroElement? a ⌝ }
+// A flag times the difference of two elements is 0 in every coordinate.
+fn gated_elements(flag: u32, a: [u32; 5], b: [u32; 5]) -> bool
+    ensures { λ r. ⌜ r ≡ zeroElement? (flag ·ₑ (a -ₑ b)) ⌝ }
 {
-    (a[0] == 0) & (a[1] == 0) & (a[2] == 0) & (a[3] == 0) & (a[4] == 0)
+    gated(flag, a[0], b[0])
+        & gated(flag, a[1], b[1])
+        & gated(flag, a[2], b[2])
+        & gated(flag, a[3], b[3])
+        & gated(flag, a[4], b[4])
 }
 
 // Each rule is open on few rows: where its flag is 0 nothing is computed.
@@ -25,7 +32,7 @@ fn sums_hold(flag: u32, comp: [u32; 5], v: [u32; 5], b: [u32; 5], tail: [u32; 5]
     if flag == 0 {
         return true;
     }
-    is_zero(scale(flag, difference(difference(comp, sum(v, b)), tail)))
+    gated_elements(flag, difference(comp, sum(v, b)), tail)
 }
 
 fn products_hold(flag: u32, comp: [u32; 5], v: [u32; 5], b: [u32; 5], tail: [u32; 5]) -> bool
@@ -34,7 +41,7 @@ fn products_hold(flag: u32, comp: [u32; 5], v: [u32; 5], b: [u32; 5], tail: [u32
     if flag == 0 {
         return true;
     }
-    is_zero(scale(flag, difference(difference(comp, product(v, b)), tail)))
+    gated_elements(flag, difference(comp, product(v, b)), tail)
 }
 
 fn peqs_hold(
@@ -51,16 +58,7 @@ fn peqs_hold(
         return true;
     }
     let one: [u32; 5] = [start, 0, 0, 0, 0];
-    is_zero(scale(flag, difference(comp, product(peq(v, b), sum(tail, one)))))
-}
-
-fn result_holds(start: u32, comp: [u32; 5], res: [u32; 5]) -> bool
-    ensures { λ r. ⌜ r ≡ zeroElement? (resultOf start comp res) ⌝ }
-{
-    if start == 0 {
-        return true;
-    }
-    is_zero(scale(start, difference(comp, res)))
+    gated_elements(flag, comp, product(peq(v, b), sum(tail, one)))
 }
 
 // be·base + (1 - be)·vA
@@ -93,7 +91,7 @@ pub fn accumulates(x: Ext, y: Ext, rest: u32) -> u32
 {
     let comp = x.comp;
     let res = x.res;
-    let last = first_of(9, result_holds(x.start, comp, res), rest);
+    let last = first_of(9, gated_elements(x.start, comp, res), rest);
     if (x.add == 0) & (x.mul == 0) & (x.peq == 0) {
         return last;
     }

@@ -60,7 +60,7 @@ fn lookups(count: usize, memory: &[u8], x: Exec, rest: u32) -> u32
 fn address_holds(flag: u32, fp_flag: u32, addr: u32, fp: u32, operand: u32) -> bool
     ensures { λ r. ⌜ r ≡ zero? (addressed flag «fp_flag» addr fp operand) ⌝ }
 {
-    gated(reads_cell(flag, fp_flag), sub(addr, add(fp, operand)))
+    gated(reads_cell(flag, fp_flag), addr, add(fp, operand))
 }
 
 fn addresses(i: Instruction, x: Exec, rest: u32) -> u32
@@ -79,6 +79,9 @@ fn add_flag(i: Instruction) -> u32
     if i.aux == 0 {
         return 0;
     }
+    if i.aux == 1 {
+        return 1;
+    }
     mul(i.aux, sub(2, i.aux))
 }
 
@@ -89,6 +92,12 @@ fn deref_flag(i: Instruction) -> u32
     if i.aux == 0 {
         return 0;
     }
+    if i.aux == 1 {
+        return 0;
+    }
+    if i.aux == 2 {
+        return 1;
+    }
     mul(mul(i.aux, sub(i.aux, 1)), 1065353217)
 }
 
@@ -96,10 +105,10 @@ fn operations(i: Instruction, x: Exec, a: u32, b: u32, c: u32, rest: u32) -> u32
     ensures { λ r. ⌜ r ≡ operationsThen i x a b c rest ⌝ }
 {
     let deref = deref_flag(i);
-    let sums = gated(add_flag(i), sub(b, add(a, c)));
-    let products = gated(i.mul, sub(b, mul(a, c)));
-    let target = gated(deref, sub(x.addrB, add(x.valueA, i.b)));
-    let equal = gated(deref, sub(x.valueB, c));
+    let sums = gated(add_flag(i), b, add(a, c));
+    let products = gated(i.mul, b, mul(a, c));
+    let target = gated(deref, x.addrB, add(x.valueA, i.b));
+    let equal = gated(deref, x.valueB, c);
     first_of(
         8,
         sums,
@@ -111,11 +120,11 @@ fn jumps(j: u32, x: Exec, y: Exec, a: u32, b: u32, c: u32) -> u32
     ensures { λ r. ⌜ r ≡ jumpsThen j x y a b c 0 ⌝ }
 {
     let stay = sub(1, j);
-    let condition = gated(j, sub(1, a));
-    let dest = gated(j, sub(y.pc, b));
-    let frame = gated(j, sub(y.fp, c));
-    let forward = gated(stay, sub(y.pc, add(x.pc, 1)));
-    let same = gated(stay, sub(y.fp, x.fp));
+    let condition = gated(j, 1, a);
+    let dest = gated(j, y.pc, b);
+    let frame = gated(j, y.fp, c);
+    let forward = gated(stay, y.pc, add(x.pc, 1));
+    let same = gated(stay, y.fp, x.fp);
     let last = first_of(15, forward, first_of(16, same, 0));
     first_of(12, condition, first_of(13, dest, first_of(14, frame, last)))
 }

@@ -34,7 +34,7 @@ fn ext_lookups(memory: &[u8], x: Ext, rest: u32) -> u32
 fn is_bit(x: u32) -> bool
     ensures { λ r. ⌜ r ≡ zero? (x *ₚ (1 -ₚ x)) ⌝ }
 {
-    gated(x, sub(1, x))
+    gated(x, 1, x)
 }
 
 fn bits(x: Ext, rest: u32) -> u32
@@ -50,21 +50,14 @@ fn bits(x: Ext, rest: u32) -> u32
     first_of(1, be, first_of(2, start, flags))
 }
 
-// The same on both rows, inside a group.
-fn same_inside(inside: u32, x: u32, y: u32) -> bool
-    ensures { λ r. ⌜ r ≡ zero? (inside *ₚ (x -ₚ y)) ⌝ }
-{
-    gated(inside, sub(x, y))
-}
-
 fn sames(inside: u32, x: Ext, y: Ext, rest: u32) -> u32
     ensures { λ r. ⌜ r ≡ samesThen inside x y rest ⌝ }
 {
-    let len = same_inside(inside, sub(x.len, y.len), 1);
-    let be = same_inside(inside, x.be, y.be);
-    let add_flag = same_inside(inside, x.add, y.add);
-    let mul_flag = same_inside(inside, x.mul, y.mul);
-    let peq_flag = same_inside(inside, x.peq, y.peq);
+    let len = gated(inside, sub(x.len, y.len), 1);
+    let be = gated(inside, x.be, y.be);
+    let add_flag = gated(inside, x.add, y.add);
+    let mul_flag = gated(inside, x.mul, y.mul);
+    let peq_flag = gated(inside, x.peq, y.peq);
     let flags = first_of(
         12,
         add_flag,
@@ -77,9 +70,9 @@ fn steps(inside: u32, x: Ext, y: Ext) -> u32
     ensures { λ r. ⌜ r ≡ stepsThen inside x y 0 ⌝ }
 {
     let stride = add(x.be, mul(sub(1, x.be), 5));
-    let a = same_inside(inside, sub(y.idxA, x.idxA), stride);
-    let b = same_inside(inside, sub(y.idxB, x.idxB), 5);
-    let last = gated(y.start, sub(x.len, 1));
+    let a = gated(inside, sub(y.idxA, x.idxA), stride);
+    let b = gated(inside, sub(y.idxB, x.idxB), 5);
+    let last = gated(y.start, x.len, 1);
     first_of(15, a, first_of(16, b, first_of(17, last, 0)))
 }
 

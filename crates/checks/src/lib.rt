@@ -9,14 +9,17 @@ pub use execution::selected;
 pub use extension::ext_failing;
 ghost use mathlib.Core.Path.{_≡_};
 ghost use Rattle.rules.specs.Given.{zero?};
-ghost use Rattle.word.specs.Word.{_*ₚ_};
+ghost use Rattle.word.specs.Word.{_-ₚ_, _*ₚ_};
 
-// A gate times what must be 0 where it is open. Most gates are shut, and then nothing is computed.
-fn gated(gate: u32, difference: u32) -> bool
-    ensures { λ r. ⌜ r ≡ zero? (gate *ₚ difference) ⌝ }
+// A gate times what must be 0 where it is open. Most gates are shut, and in a table that is accepted the two are equal: then nothing is computed.
+fn gated(gate: u32, x: u32, y: u32) -> bool
+    ensures { λ r. ⌜ r ≡ zero? (gate *ₚ (x -ₚ y)) ⌝ }
 {
     if gate == 0 {
         return true;
     }
-    word::mul(gate, difference) == 0
+    if x == y {
+        return true;
+    }
+    word::mul(gate, word::sub(x, y)) == 0
 }

@@ -5,3 +5,4 @@ pub mod Modulo
 pub mod Primality
 pub mod WordLaws
 pub mod ElementLaws
+pub mod Below

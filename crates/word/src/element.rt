@@ -27,10 +27,16 @@ pub fn difference(a: [u32; 5], b: [u32; 5]) -> [u32; 5]
     ]
 }
 
-// A word times an element.
+// A word times an element. Most are flags, and take no product.
 pub fn scale(x: u32, a: [u32; 5]) -> [u32; 5]
     ensures { λ r. ⌜ r ≡ x ·ₑ a ⌝ }
 {
+    if x == 0 {
+        return [0, 0, 0, 0, 0];
+    }
+    if x == 1 {
+        return sum(a, [0, 0, 0, 0, 0]);
+    }
     [
         crate::mul(x, a[0]),
         crate::mul(x, a[1]),

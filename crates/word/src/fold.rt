@@ -3,10 +3,13 @@ ghost use mathlib.Core.Path.{_≡_};
 ghost use Rattle.word.specs.Word.{_+ₚ_, _*ₚ_};
 ghost use Rattle.word.specs.Element.{_*ₑ_, nine, folded};
 
-// The sum of two products.
+// The sum of two products. Of words, it fits 64 bits and is reduced once.
 fn two(x: u32, y: u32, v: u32, w: u32) -> u32
     ensures { λ r. ⌜ r ≡ x *ₚ y +ₚ v *ₚ w ⌝ }
 {
+    if (x < 2147483648) & (v < 2147483648) {
+        return crate::reduced(crate::wide(x) * crate::wide(y) + crate::wide(v) * crate::wide(w));
+    }
     crate::add(crate::mul(x, y), crate::mul(v, w))
 }
 

@@ -29,9 +29,14 @@ fn reduced(x: u64) -> u32
     (x % P) as u32
 }
 
+// Words are below p, and their sum is reduced by one test; any other number takes the remainder.
 pub fn add(x: u32, y: u32) -> u32
     ensures { λ r. ⌜ r ≡ x +ₚ y ⌝ }
 {
+    if (x < 2130706433) & (y < 2130706433) {
+        let s = x + y;
+        return if s < 2130706433 { s } else { s - 2130706433 };
+    }
     reduced(wide(x) + wide(y))
 }
 
@@ -39,6 +44,9 @@ pub fn add(x: u32, y: u32) -> u32
 pub fn sub(x: u32, y: u32) -> u32
     ensures { λ r. ⌜ r ≡ x -ₚ y ⌝ }
 {
+    if (x < 2130706433) & (y < 2130706433) {
+        return if y <= x { x - y } else { x + (2130706433 - y) };
+    }
     reduced(wide(x) + 3 * P - wide(y))
 }
 

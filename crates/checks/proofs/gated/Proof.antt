@@ -1,6 +1,7 @@
--- A shut gate leaves 0; else the product is the definition's.
-use Rattle.checks.proofs.Shut.{shut}
+-- A shut gate leaves 0, and so do equal words; else the product is the definition's.
 use borrow.Author.Needs.{needs}
+use Rattle.word.proofs.WordLaws.{product-zero, difference-self}
+use Rattle.checks.proofs.Shut.{shut}
 use Rattle.checks.proofs.gated.Statement.{statement}
 use Rattle.checks.proofs.gated.Tie as tie
 
@@ -8,7 +9,10 @@ returns : tie.Need-returns
 returns c = rw (c .if1 .taken, shut)
 
 returns-2 : tie.Need-returns-2
-returns-2 c = cc
+returns-2 c = rw (c .if2 .taken, difference-self, product-zero)
+
+returns-3 : tie.Need-returns-3
+returns-3 c = cc
 
 pub gated-spec : {M : Type 1} → statement M
-gated-spec = tie.close (tie.spec returns (λ c κs. search needs) returns-2)
+gated-spec = tie.close (tie.spec returns returns-2 (λ c κs. search needs) (λ c κs. search needs) returns-3)

@@ -8,23 +8,8 @@ returns : tie.Need-returns
 returns c = rw (c .if1 .taken, scale-zero)
 
 returns-2 : tie.Need-returns-2
-returns-2 c =
-    let peq = c .before .before .before .before .before .peq in
-    let sum = c .before .before .before .before .sum in
-    let product = c .before .before .before .product in
-    let difference = c .before .before .difference in
-    let scale = c .before .scale in
-    rw (c .is-zero .ensures, scale .ensures, difference .ensures, product .ensures, sum .ensures, peq .ensures)
+returns-2 c = rw (c .gated-elements .ensures, c .before .product .ensures, c .before .before .sum .ensures, c .before .before .before .peq .ensures)
 
 pub peqs-hold-spec : {M : Type 1} → statement M
 peqs-hold-spec =
-    tie.close
-    (tie.spec
-    returns
-    (λ c κs. search needs)
-    (λ c κs. search needs)
-    (λ c κs. search needs)
-    (λ c κs. search needs)
-    (λ c κs. search needs)
-    (λ c κs. search needs)
-    returns-2)
+    tie.close (tie.spec returns (λ c κs. search needs) (λ c κs. search needs) (λ c κs. search needs) (λ c κs. search needs) returns-2)

@@ -8,21 +8,8 @@ returns : tie.Need-returns
 returns c = rw (c .if1 .taken, scale-zero)
 
 returns-2 : tie.Need-returns-2
-returns-2 c =
-    let product = c .before .before .before .before .product in
-    let difference = c .before .before .before .difference in
-    let difference2 = c .before .before .difference2 in
-    let scale = c .before .scale in
-    rw (c .is-zero .ensures, scale .ensures, difference2 .ensures, difference .ensures, product .ensures)
+returns-2 c = rw (c .gated-elements .ensures, c .before .difference .ensures, c .before .before .product .ensures)
 
 pub products-hold-spec : {M : Type 1} → statement M
 products-hold-spec =
-    tie.close
-    (tie.spec
-    returns
-    (λ c κs. search needs)
-    (λ c κs. search needs)
-    (λ c κs. search needs)
-    (λ c κs. search needs)
-    (λ c κs. search needs)
-    returns-2)
+    tie.close (tie.spec returns (λ c κs. search needs) (λ c κs. search needs) (λ c κs. search needs) returns-2)

@@ -1,14 +1,20 @@
--- AUX 0 leaves 0; else each step is the definition's.
-use Rattle.checks.proofs.Shut.{shut}
+-- AUX 0 and 1 are computed here; else each step is the definition's.
 use borrow.Author.Needs.{needs}
+use mathlib.Core.Path.{refl}
+use Rattle.word.specs.Word.{_-ₚ_, _*ₚ_}
 use Rattle.checks.proofs.execution.add_flag.Statement.{statement}
 use Rattle.checks.proofs.execution.add_flag.Tie as tie
 
 returns : tie.Need-returns
-returns c = rw (c .if1 .taken, shut)
+unfolding _-ₚ_ _*ₚ_
+returns c = rw (c .if1 .taken) refl
 
 returns-2 : tie.Need-returns-2
-returns-2 c = cc
+unfolding _-ₚ_ _*ₚ_
+returns-2 c = rw (c .if2 .taken) refl
+
+returns-3 : tie.Need-returns-3
+returns-3 c = cc
 
 pub add-flag-spec : {M : Type 1} → statement M
-add-flag-spec = tie.close (tie.spec returns (λ c κs. search needs) (λ c κs. search needs) returns-2)
+add-flag-spec = tie.close (tie.spec returns returns-2 (λ c κs. search needs) (λ c κs. search needs) returns-3)

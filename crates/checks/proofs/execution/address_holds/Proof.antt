@@ -1,4 +1,3 @@
--- Each call gives the definition's part.
 use borrow.Author.Needs.{needs}
 use Rattle.checks.proofs.execution.address_holds.Statement.{statement}
 use Rattle.checks.proofs.execution.address_holds.Tie as tie
@@ -7,5 +6,4 @@ returns : tie.Need-returns
 returns c = cc
 
 pub address-holds-spec : {M : Type 1} → statement M
-address-holds-spec =
-    tie.close (tie.spec (λ c κs. search needs) (λ c κs. search needs) (λ c κs. search needs) (λ c κs. search needs) returns)
+address-holds-spec = tie.close (tie.spec (λ c κs. search needs) (λ c κs. search needs) (λ c κs. search needs) returns)

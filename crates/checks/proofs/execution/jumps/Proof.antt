@@ -1,4 +1,3 @@
--- Each call gives the definition's part.
 use borrow.Author.Needs.{needs}
 use Rattle.checks.proofs.execution.jumps.Statement.{statement}
 use Rattle.checks.proofs.execution.jumps.Tie as tie
@@ -10,11 +9,6 @@ pub jumps-spec : {M : Type 1} → statement M
 jumps-spec =
     tie.close
     (tie.spec
-    (λ c κs. search needs)
-    (λ c κs. search needs)
-    (λ c κs. search needs)
-    (λ c κs. search needs)
-    (λ c κs. search needs)
     (λ c κs. search needs)
     (λ c κs. search needs)
     (λ c κs. search needs)

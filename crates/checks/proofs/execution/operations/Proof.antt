@@ -1,4 +1,3 @@
--- Each call gives the definition's part.
 use borrow.Author.Needs.{needs}
 use Rattle.checks.proofs.execution.operations.Statement.{statement}
 use Rattle.checks.proofs.execution.operations.Tie as tie
@@ -10,10 +9,6 @@ pub operations-spec : {M : Type 1} → statement M
 operations-spec =
     tie.close
     (tie.spec
-    (λ c κs. search needs)
-    (λ c κs. search needs)
-    (λ c κs. search needs)
-    (λ c κs. search needs)
     (λ c κs. search needs)
     (λ c κs. search needs)
     (λ c κs. search needs)

@@ -1,4 +1,3 @@
--- Each call gives the definition's part.
 use borrow.Author.Needs.{needs}
 use Rattle.checks.proofs.extension.steps.Statement.{statement}
 use Rattle.checks.proofs.extension.steps.Tie as tie
@@ -10,7 +9,6 @@ pub steps-spec : {M : Type 1} → statement M
 steps-spec =
     tie.close
     (tie.spec
-    (λ c κs. search needs)
     (λ c κs. search needs)
     (λ c κs. search needs)
     (λ c κs. search needs)

@@ -1,55 +1,40 @@
--- Each word is what `word_at` promises; past the end each is 0.
-use mathlib.Core.Path.{_≡_, sym}
-use mathlib.Core.List.{List}
-use Prim.Native.Nat.{ℕ, _+_, _≤_}
-use lib.ListN.{length}
-use Rattle.word.specs.Bytes.{wordAt}
-use native.Mathlib.Omega.{arith}
-use Rattle.word.proofs.FourBytes.{past}
-use Rattle.form.specs.Instruction.{instructionAt}
+-- One test covers the 48 bytes; each word is then the one read there.
 use borrow.Author.Needs.{needs}
+use native.Mathlib.Omega.{arith}
+use Rattle.form.specs.Instruction.{instructionAt}
 use Rattle.form.proofs.words.instruction_at.Statement.{statement}
 use Rattle.form.proofs.words.instruction_at.Tie as tie
 
--- a word past the end is 0
-gone : (s : List ℕ) (at k : ℕ) → length s ≤ at → wordAt s (at + k) ≡ 0
-gone s at k h = sym (past s (at + k) (omega arith))
+add-word-inside-11 : tie.Need-add-word-inside-11
+add-word-inside-11 c = omega (arith, c .before .before .before .before .before .before .before .before .before .before .before .if2 .left)
 
-returns : tie.Need-returns
-unfolding instructionAt
-returns c =
-    let s : List ℕ = c .before .before .args .s .now in
-    let at : ℕ = c .before .before .args .at in
-    let h : length s ≤ at = c .if1 .taken in
-    rw (← past s at h, gone s at 4 h, gone s at 8 h, gone s at 12 h, gone s at 16 h, gone s at 20 h, gone s at 24 h, gone s at 28 h, gone s at 32 h, gone s at 36 h, gone s at 40 h, gone s at 44 h)
+word-inside-requires-12 : tie.Need-word-inside-requires-12
+word-inside-requires-12 c κs = omega (arith, c .before .before .before .before .before .before .before .before .before .before .before .if2 .left)
 
-returns-2 : tie.Need-returns-2
+returns-3 : tie.Need-returns-3
 unfolding instructionAt
-returns-2 c =
-    let c9 = c .before .before .before in
-    let c6 = c9 .before .before .before in
-    let c3 = c6 .before .before .before in
+returns-3 c =
     rw (
-      c3 .before .before .word-at .ensures,
-      c3 .before .word-at2 .ensures,
-      c3 .word-at3 .ensures,
-      c6 .before .before .word-at4 .ensures,
-      c6 .before .word-at5 .ensures,
-      c6 .word-at6 .ensures,
-      c9 .before .before .word-at7 .ensures,
-      c9 .before .word-at8 .ensures,
-      c9 .word-at9 .ensures,
-      c .before .before .word-at10 .ensures,
-      c .before .word-at11 .ensures,
-      c .word-at12 .ensures,
+      c .before .before .before .before .before .before .before .before .before .before .before .word-inside .ensures,
+      c .before .before .before .before .before .before .before .before .before .before .word-inside2 .ensures,
+      c .before .before .before .before .before .before .before .before .before .word-inside3 .ensures,
+      c .before .before .before .before .before .before .before .before .word-inside4 .ensures,
+      c .before .before .before .before .before .before .before .word-inside5 .ensures,
+      c .before .before .before .before .before .before .word-inside6 .ensures,
+      c .before .before .before .before .before .word-inside7 .ensures,
+      c .before .before .before .before .word-inside8 .ensures,
+      c .before .before .before .word-inside9 .ensures,
+      c .before .before .word-inside10 .ensures,
+      c .before .word-inside11 .ensures,
+      c .word-inside12 .ensures,
     )
 
 pub instruction-at-spec : {M : Type 1} → statement M
 instruction-at-spec =
     tie.close
     (tie.spec
-    returns
     (λ c κs. search needs)
+    (λ c. search needs)
     (λ c. search needs)
     (λ c κs. search needs)
     (λ c. search needs)
@@ -72,4 +57,8 @@ instruction-at-spec =
     (λ c κs. search needs)
     (λ c. search needs)
     (λ c κs. search needs)
-    returns-2)
+    (λ c. search needs)
+    (λ c κs. search needs)
+    add-word-inside-11
+    word-inside-requires-12
+    returns-3)

@@ -1,0 +1,70 @@
+/* Uisnabar's C library: the judge of leanVM tables and the reader of labels.
+ *
+ * Link with libuisnabar.a, as `./bench lib` builds it (x86-64, System V calls). Both functions return; they keep nothing between
+ * calls, use no heap and need less than 64 KiB of stack; they may be called from several threads at once.
+ *
+ * Buffers. Each is a pointer and its length in bytes. The caller owns every buffer and may free or change it once the call returned. A
+ * pointer may be null where its length is 0. A buffer that is written must not overlap any other. Inputs are read only within
+ * their lengths and never written. Lengths and contents may be anything: what is wrong with them is the answer.
+ *
+ * Answers. The verdict is returned. The four numbers verdict, part, place and rule are written to `answer` as 16 bytes, 4 each,
+ * little-endian; a number that a verdict does not name is 0. docs/VERDICTS.md is the same table at length.
+ */
+#ifndef UISNABAR_H
+#define UISNABAR_H
+
+#include <stddef.h>
+#include <stdint.h>
+
+#ifdef __cplusplus
+extern "C" {
+#endif
+
+/* Verdicts that the two functions return. Parts are 1 program, 2 memory, 3 execution table, 4 extension table. */
+enum uisnabar_verdict {
+    UISNABAR_ACCEPTED = 0,
+    UISNABAR_SIZE = 1,        /* part: the lowest of bad length */
+    UISNABAR_WORD = 2,        /* part, place: the first word at or above p, by part */
+    UISNABAR_INSTRUCTION = 3, /* part 1, place: the first malformed instruction */
+    UISNABAR_START = 4,       /* row 0 of the execution table isn't the start */
+    UISNABAR_EXEC = 5,        /* part 3, place: row, rule: 1 to 16; first by row, then by rule */
+    UISNABAR_EXTENSION = 6,   /* part 4, place: row, rule: first by row, then 18 to 21, then 1 to 17 */
+    UISNABAR_BUS = 7,         /* part 3, place: first pushing row whose tuple is unequal; else part 4, first pulling row */
+    UISNABAR_LABEL = 8,       /* place: longest prefix shared with any valid label */
+    UISNABAR_ANSWER = 13      /* a buffer to be written isn't 16 bytes; nothing is written */
+};
+
+/* The judge: do the tables satisfy the constraints of leanVM draft 0.6.0?
+ *
+ *   program  1 to 2^20 instructions of 48 bytes: operands A, B, C; flags fA, fB, fC, fpC, fpAB; MUL, JUMP, AUX; DATA
+ *   memory   2^m words of 4 bytes, m from 8 to 29
+ *   pc, fp   the start. 64 bits wide and compared whole: a number at or above p is no row's and gives START
+ *   exec     H rows of 32 bytes, H a power of two from 2^8 to 2^25: pc, fp, addr A, B, C, value A, B, C
+ *   ext      K rows of 120 bytes, K a power of two from 2^8 to 2^20: start, add, mul, peq, len, idxA, idxB, idxR, be, vA base;
+ *            then vA, vB, comp, res of five words each
+ *   answer   16 bytes, written on every verdict but ANSWER
+ *
+ * Returns ACCEPTED, 1 to 7, or ANSWER where answer_len isn't 16. Tests run in number order, ANSWER first.
+ * Time grows with the bytes handed in where groups stand in execution order, as a tabler writes them; docs/DECISIONS.md
+ * ("The bus in the judge") has the cost of other orders.
+ */
+uint32_t uisnabar_judge(const uint8_t *program, size_t program_len, const uint8_t *memory, size_t memory_len,
+                        uint64_t pc, uint64_t fp, const uint8_t *exec, size_t exec_len,
+                        const uint8_t *ext, size_t ext_len, uint8_t *answer, size_t answer_len);
+
+/* The label reader.
+ *
+ *   text     the whole label: `v=1`, `seed=` with 16 lower-case hex digits, `m=` (10 to 29), `n=` (1 to 124), each line ended by LF
+ *   answer   16 bytes, written on every verdict but ANSWER
+ *   recipe   16 bytes: seed (8 bytes), m and n (4 each), little-endian; written on ACCEPTED alone, else as it was
+ *
+ * Returns ACCEPTED, LABEL, or ANSWER where answer_len or recipe_len isn't 16; nothing is written then.
+ */
+uint32_t uisnabar_label(const uint8_t *text, size_t text_len, uint8_t *answer, size_t answer_len,
+                        uint8_t *recipe, size_t recipe_len);
+
+#ifdef __cplusplus
+}
+#endif
+
+#endif

@@ -1,0 +1,31 @@
+/* Inside build.c and builder.c only: single instructions. */
+#ifndef DIFFER_BUILDER_H
+#define DIFFER_BUILDER_H
+
+#include "world.h"
+
+typedef struct {
+    source *random;
+    world *to;
+    uint32_t cells, fp;
+    uint32_t count, steps, used; /* instructions, steps, extension rows so far */
+    bool pinned[MAX_CELLS];      /* cells that a step already relies on */
+} builder;
+
+/* `run` cells one after another that nothing relies on. */
+bool find_free(builder *b, uint32_t run, uint32_t *at);
+void set_cells(builder *b, uint32_t at, const uint32_t *words, uint32_t count);
+uint32_t some_frame(builder *b);
+
+void put_form(builder *b, const uint32_t form[FORM_WORDS]);
+
+/* Legal steps.  `fixed` ones mean the same in every frame. */
+void put_arithmetic(builder *b, bool fixed);
+void put_deref(builder *b);
+void put_jump(builder *b, bool taken, uint32_t to, uint32_t frame);
+void put_group(builder *b, uint32_t n, bool fixed);
+
+/* A well-formed instruction that is not meant to be run. */
+void put_dead_form(builder *b);
+
+#endif

@@ -1,0 +1,56 @@
+/* One compared call: the library and the second get the same bytes. */
+#ifndef DIFFER_CALL_H
+#define DIFFER_CALL_H
+
+#include "lend.h"
+#include "second.h"
+#include "tally.h"
+
+enum { SLOTS = 5, FULL_DIFFERENCES = 10 };
+
+/* A buffer at entry; bytes NULL stands for random bytes. */
+typedef struct {
+    uint8_t *bytes;
+    size_t len;
+    bool borrowed; /* see slot_borrow */
+} buffer;
+
+/* What is to be tried.  Buffers stand in the order of the parameters, the
+ * answer's last but for the label reader, whose recipe comes after it. */
+typedef struct {
+    enum function function;
+    uint64_t pc, fp;      /* judge and tabler */
+    second_recipe recipe; /* maker and writer */
+    buffer lent[SLOTS];
+    bool sorted;          /* the bus would be slow to count */
+} attempt;
+
+typedef struct {
+    uint64_t seed, calls, limit, differences;
+    source random; /* for what is tried */
+    source filler; /* for random bytes and where buffers stand */
+    bool paged;
+    uint8_t *stack; /* of the thread, paged */
+    slot slots[SLOTS];
+    tally reached;
+    char what[1200]; /* what is tried, in words */
+    size_t what_len;
+} differ;
+
+/* False if the machine gives no room. */
+bool differ_open(differ *d, uint64_t seed, bool paged);
+
+/* Adds to the words on what is tried; takes back all but the first len. */
+void note(differ *d, const char *format, ...);
+void note_back(differ *d, size_t len);
+
+/* More calls are asked for. */
+static inline bool more_calls(const differ *d)
+{
+    return d->calls < d->limit;
+}
+
+/* Calls both, compares everything, counts what was reached. */
+void compare(differ *d, const attempt *t);
+
+#endif

@@ -1,0 +1,42 @@
+/* The largest lengths and the next ones.  No byte of the large part need be
+ * read, since the program's first word is refused once all lengths are good;
+ * only a large program is read, and that takes a moment. */
+#define _DEFAULT_SOURCE
+#include "tries.h"
+
+#include <sys/mman.h>
+
+static const size_t most[PARTS] = { (size_t)1 << 20, (size_t)1 << 29,
+                                    (size_t)1 << 25, (size_t)1 << 20 };
+
+static void try_limit(differ *d, enum function f, int part, size_t count,
+                      uint8_t *zeros)
+{
+    static uint8_t bytes[PARTS][256 * 4 * EXT_WORDS];
+    attempt t = { .function = f, .lent = { { NULL, 0, false } } };
+    for (int i = 0; i < PARTS; i++)
+        t.lent[i] = (buffer){ bytes[i], 256 * unit_of(i), false };
+    store_word(bytes[PROGRAM], P);
+    t.lent[part] = (buffer){ zeros, unit_of(part) * count, true };
+    t.lent[PARTS].len = 16;
+    note_back(d, 0);
+    note(d, "part %d with %zu of %zu bytes", part + 1, count, unit_of(part));
+    compare(d, &t);
+}
+
+/* A write to these bytes faults, so nothing has to be compared. */
+void try_limits(differ *d)
+{
+    size_t bytes = 2 * most[MEMORY] * unit_of(MEMORY);
+    uint8_t *zeros = mmap(NULL, bytes, PROT_READ,
+                          MAP_PRIVATE | MAP_ANONYMOUS | MAP_NORESERVE, -1, 0);
+    if (zeros == MAP_FAILED)
+        return; /* a machine without the address space */
+    for (int part = 0; part < PARTS; part++) {
+        size_t next = part == PROGRAM ? most[part] + 1 : 2 * most[part];
+        for (int i = 0; i < 4 && more_calls(d); i++)
+            try_limit(d, i < 2 ? JUDGE : TABLER, part,
+                      i % 2 == 0 ? most[part] : next, zeros);
+    }
+    munmap(zeros, bytes);
+}

@@ -1,0 +1,81 @@
+/* Compares the library with the second implementation, call by call.
+ *
+ *   differ SEED CALLS             stops after that many calls
+ *   differ SEED 0 SECONDS         stops after that long
+ *   differ --page SEED CALLS      buffers at pages that fault, small stack
+ *
+ * Ends with 0 if there is no difference and everything listed in tally.c was
+ * reached, 1 if not, 2 if it could not run. */
+#define _DEFAULT_SOURCE
+#include <errno.h>
+#include <inttypes.h>
+#include <stdio.h>
+#include <stdlib.h>
+#include <string.h>
+#include <time.h>
+
+#include "tries.h"
+
+static differ all;
+
+static bool number(const char *from, uint64_t *to)
+{
+    char *end;
+    errno = 0;
+    *to = strtoull(from, &end, 0);
+    return errno == 0 && end != from && *end == 0 && *from != '-';
+}
+
+static double seconds_now(void)
+{
+    struct timespec t;
+    clock_gettime(CLOCK_MONOTONIC, &t);
+    return (double)t.tv_sec + (double)t.tv_nsec / 1e9;
+}
+
+/* Labels and recipes between worlds, until calls or seconds are used up. */
+static void run(differ *d, uint64_t seconds)
+{
+    double from = seconds_now();
+    try_limits(d);
+    while (more_calls(d)
+           && (seconds == 0 || seconds_now() - from < (double)seconds)) {
+        try_world(d);
+        for (int i = 0; i < 5 && more_calls(d); i++)
+            try_label(d);
+        if (more_calls(d))
+            try_writer(d);
+        if (more_calls(d))
+            try_maker(d);
+    }
+}
+
+static int usage(void)
+{
+    fprintf(stderr, "usage: differ [--page] SEED CALLS, or SEED 0 SECONDS\n");
+    return 2;
+}
+
+int main(int argc, char **argv)
+{
+    bool paged = argc > 1 && strcmp(argv[1], "--page") == 0;
+    char **from = argv + 1 + paged;
+    int given = argc - 1 - paged;
+    uint64_t seed, calls, seconds = 0;
+    if (given < 2 || given > 3 || !number(from[0], &seed)
+        || !number(from[1], &calls)
+        || (given == 3 && !number(from[2], &seconds))
+        || (calls == 0) != (seconds != 0))
+        return usage();
+    printf("seed %" PRIu64 "\n", seed);
+    if (!differ_open(&all, seed, paged) || !rounds_open()) {
+        fprintf(stderr, "differ: no room\n");
+        return 2;
+    }
+    all.limit = calls == 0 ? UINT64_MAX : calls;
+    run(&all, seconds);
+    bool complete = tally_report(&all.reached);
+    printf("calls: %" PRIu64 "\ndifferences: %" PRIu64 "\n", all.calls,
+           all.differences);
+    return complete && all.differences == 0 ? 0 : 1;
+}

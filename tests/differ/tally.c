@@ -1,0 +1,122 @@
+#include "tally.h"
+
+#include <inttypes.h>
+#include <stdio.h>
+
+const char *const function_names[FUNCTIONS] = {
+    "judge", "label reader", "tabler", "maker", "label writer"
+};
+
+static const char *const verdict_names[VERDICTS] = {
+    "ACCEPTED", "SIZE", "WORD", "INSTRUCTION", "START", "EXEC", "EXTENSION",
+    "BUS", "LABEL", "STUCK", "ROOM", "OPEN", "SELF", "ANSWER"
+};
+
+/* Which verdicts each function must reach.  SELF is the replay program's; the
+ * writer returns a length, so its wrong answer buffers are not counted on. */
+static const bool expected[FUNCTIONS][VERDICTS] = {
+    [JUDGE] = { [ACCEPTED] = true, [SIZE] = true, [WORD] = true,
+                [INSTRUCTION] = true, [START] = true, [EXEC] = true,
+                [EXTENSION] = true, [BUS] = true, [ANSWER] = true },
+    [LABEL_READER] = { [ACCEPTED] = true, [LABEL] = true, [ANSWER] = true },
+    [TABLER] = { [ACCEPTED] = true, [SIZE] = true, [WORD] = true,
+                 [INSTRUCTION] = true, [START] = true, [STUCK] = true,
+                 [ROOM] = true, [OPEN] = true, [ANSWER] = true },
+    [MAKER] = { [ACCEPTED] = true, [SIZE] = true, [ANSWER] = true },
+    [LABEL_WRITER] = { [ACCEPTED] = true, [SIZE] = true },
+};
+
+/* A number outside its table is a difference's business, not the tally's. */
+static void count(uint64_t *table, uint32_t last, uint32_t at)
+{
+    if (at <= last)
+        table[at]++;
+}
+
+void tally_add(tally *t, enum function f, second_answer a)
+{
+    t->calls[f]++;
+    count(t->verdicts[f], VERDICTS - 1, a.verdict);
+    if (a.verdict == EXEC)
+        count(t->exec, LAST_EXEC_RULE, a.rule);
+    if (a.verdict == EXTENSION)
+        count(t->ext, LAST_EXT_RULE, a.rule);
+    if (a.verdict == STUCK)
+        count(t->stuck, LAST_STUCK_RULE, a.rule);
+    if (a.verdict == SIZE)
+        count(t->size, LAST_SIZE_PART, a.part);
+    if (a.verdict == BUS)
+        count(t->bus, LAST_PART, a.part);
+    if (a.verdict == WORD)
+        count(t->word, LAST_PART, a.part);
+    if (a.verdict == LABEL)
+        count(t->place, LAST_PLACE, a.place);
+}
+
+typedef struct {
+    const char *name;
+    const uint64_t *table;
+    uint32_t first, last; /* each from first to last must be reached */
+} line;
+
+enum { LINES = 7 };
+
+static void lines_of(const tally *t, line out[LINES])
+{
+    const line all[LINES] = {
+        { "execution rule", t->exec, 1, LAST_EXEC_RULE },
+        { "extension rule", t->ext, 1, LAST_EXT_RULE },
+        { "STUCK rule", t->stuck, 1, LAST_STUCK_RULE },
+        { "BUS part", t->bus, 3, LAST_PART },
+        { "SIZE part", t->size, 0, LAST_SIZE_PART },
+        { "WORD part", t->word, 1, LAST_PART },
+        { "LABEL place", t->place, 0, LAST_PLACE },
+    };
+    for (int i = 0; i < LINES; i++)
+        out[i] = all[i];
+}
+
+static void print_calls(const tally *t)
+{
+    for (int f = 0; f < FUNCTIONS; f++) {
+        printf("%s: %" PRIu64 " calls", function_names[f], t->calls[f]);
+        for (int v = 0; v < VERDICTS; v++)
+            if (t->verdicts[f][v] != 0)
+                printf(", %d %s %" PRIu64, v, verdict_names[v],
+                       t->verdicts[f][v]);
+        printf("\n");
+    }
+}
+
+/* The list of what is missing; gives its length. */
+static uint32_t print_missing(const tally *t, const line lines[LINES])
+{
+    uint32_t missing = 0;
+    printf("not reached:");
+    for (int f = 0; f < FUNCTIONS; f++)
+        for (int v = 0; v < VERDICTS; v++)
+            if (expected[f][v] && t->verdicts[f][v] == 0)
+                printf("%s %s's %s", missing++ == 0 ? "" : ",",
+                       function_names[f], verdict_names[v]);
+    for (int i = 0; i < LINES; i++)
+        for (uint32_t k = lines[i].first; k <= lines[i].last; k++)
+            if (lines[i].table[k] == 0)
+                printf("%s %s %" PRIu32, missing++ == 0 ? "" : ",",
+                       lines[i].name, k);
+    printf("%s\n", missing == 0 ? " nothing" : "");
+    return missing;
+}
+
+bool tally_report(const tally *t)
+{
+    line lines[LINES];
+    lines_of(t, lines);
+    print_calls(t);
+    for (int i = 0; i < LINES; i++) {
+        printf("%ss:", lines[i].name);
+        for (uint32_t k = lines[i].first; k <= lines[i].last; k++)
+            printf(" %" PRIu32 ":%" PRIu64, k, lines[i].table[k]);
+        printf("\n");
+    }
+    return print_missing(t, lines) == 0;
+}

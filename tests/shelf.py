@@ -1,0 +1,99 @@
+"""The shelf: labels, and beside each the answer and the tables' checksum, computed by tests/oracle.py from document 01.
+
+`shelf.py DIR check` says what differs from the files that stand there; `shelf.py DIR write` writes them. The labels are chosen here;
+`choice` asserts what they cover."""
+import hashlib
+import pathlib
+import sys
+
+import oracle
+
+H = K = 256
+SEEDS = {"low": 0x000000002FFFFFFF, "one": 0x000000012FFFFFFF, "all": 0xFFFFFFFF2FFFFFFF}  # they differ in the upper half alone
+
+
+def four_lines(answer):
+    return "".join(f"{name}={number}\n" for name, number in zip(("verdict", "part", "place", "rule"), answer)).encode()
+
+
+def answer_and_tables(text):
+    """What the replay and the table program write, by document 01."""
+    *answer, seed, m, n = oracle.read_label(text)
+    if answer[0] != 0:
+        return four_lines(answer), b""
+    if m != 10:
+        return text + four_lines((1, 2, 0, 0)), b""
+    program, memory = oracle.make(seed, m, n)
+    tabled, execution, extension = oracle.table(program, memory, 0, 0, 32 * H, 120 * K)
+    judged = oracle.judge(program, memory, 0, 0, execution, extension)
+    if tabled[0] != 0 or judged[0] != 0:
+        return text + four_lines((12, 0, 0, 0)), b""
+    return text + four_lines((0, 0, 0, 0)), bytes(program) + bytes(memory) + bytes(execution) + bytes(extension)
+
+
+def kind_of(seed):
+    """The kind of a recipe's first instruction, and for an extension its operation, be and N."""
+    program, _ = oracle.make(seed, 10, 1)
+    words = oracle.words_of(program)[:12]
+    if words[8]:
+        return "mul"
+    if words[9]:
+        return "jump-taken" if words[0] else "jump-untaken"
+    if words[10]:
+        return "add" if words[10] == 1 else "deref"
+    operation = {4: "xadd", 8: "xmul", 16: "xpeq"}[words[11] & 28]
+    return f"{operation}{'-be' if words[11] & 2 else ''}-{words[11] >> 5}"
+
+
+KINDS = ["add", "mul", "deref", "jump-taken", "jump-untaken"] + [f"x{o}{be}-{n}" for o in ("add", "mul", "peq") for be in ("", "-be") for n in (1, 2)]
+
+
+def choice():
+    """Each label under its name: a first instruction of every kind, both ends of n, seeds that differ in the upper half, refusals."""
+    labels, seed = {}, 0
+    while len(labels) < len(KINDS):
+        labels.setdefault("kind-" + kind_of(seed), oracle.label(seed, 10, 1))
+        seed += 1
+    assert set(labels) == {"kind-" + kind for kind in KINDS}
+    for name, number in SEEDS.items():
+        labels["upper-half-" + name] = oracle.label(number, 10, 124)
+    labels["seed-0"] = oracle.label(0, 10, 124)
+    labels["seed-last"] = oracle.label(2**64 - 1, 10, 124)
+    labels["memory-11"] = oracle.label(1, 11, 60)
+    labels["memory-29"] = oracle.label(1, 29, 60)
+    whole = oracle.label(SEEDS["one"], 10, 12)
+    labels["refused-n-125"] = b"v=1\nseed=000000012fffffff\nm=10\nn=125\n"
+    labels["refused-cut"] = whole[:-1]
+    labels["refused-more"] = whole + b"\n"
+    labels["refused-cr-lf"] = whole.replace(b"\n", b"\r\n")
+    labels["refused-capital"] = whole.replace(b"f", b"F")
+    labels["refused-empty"] = b""
+    labels["refused-binary"] = bytes(range(256))
+    return labels
+
+
+def files():
+    for name, text in sorted(choice().items()):
+        answer, tables = answer_and_tables(text)
+        yield name + ".label", text
+        yield name + ".answer", answer
+        yield name + ".tables", hashlib.sha256(tables).hexdigest().encode() + b"  -\n"
+
+
+def main(folder, what):
+    folder, faults, expected = pathlib.Path(folder), 0, dict(files())
+    if what == "write":
+        folder.mkdir(exist_ok=True)
+        for name, content in expected.items():
+            (folder / name).write_bytes(content)
+    for name in sorted(set(expected) | {path.name for path in folder.iterdir()}):
+        path = folder / name
+        if name not in expected or not path.exists() or path.read_bytes() != expected[name]:
+            print(f"{path} is not what document 01 gives")
+            faults += 1
+    print(f"{len(expected) // 3} labels computed, {faults} files differ")
+    return 1 if faults else 0
+
+
+if __name__ == "__main__":
+    sys.exit(main(*sys.argv[1:]))

@@ -1,0 +1,22 @@
+/* Programs for the clock: straight runs of H steps, all five kinds, an extension of N = 4 on every 16th step. */
+#ifndef INPUTS_H
+#define INPUTS_H
+
+#include <stddef.h>
+#include <stdint.h>
+
+typedef struct {
+    size_t height, ext_height, cells;
+    size_t program_len, memory_len, exec_len, ext_len;
+    uint8_t *program, *memory, *exec, *ext, *shuffled;
+} speed_input;
+
+/* Program and memory of a run of `height` steps with a quarter as many extension rows; both tables zero. */
+speed_input speed_build(unsigned height_log, unsigned ext_log, unsigned memory_log, uint64_t seed);
+
+/* The extension table with its groups in another order, from the one that stands in `ext`. */
+void speed_shuffle(speed_input *in, uint64_t seed);
+
+void speed_free(speed_input *in);
+
+#endif
