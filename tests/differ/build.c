@@ -144,8 +144,10 @@ void build(differ *d, world *w)
         put_step(&b);
     if (full)
         fill_table(&b);
-    if (late) /* the last step is near the table's end */
+    if (late) /* the run ends near row 256: the table's end or its middle */
         plain_steps(&b, 253 + below(b.random, 6));
+    if (late && once_in(b.random, 2))
+        w->len[EXECUTION] = 512 * unit_of(EXECUTION);
     put_end(&b, first);
     if (b.count == 0)
         put_dead_form(&b);

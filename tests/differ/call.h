@@ -2,8 +2,8 @@
 #ifndef DIFFER_CALL_H
 #define DIFFER_CALL_H
 
+#include "../second/second.h"
 #include "lend.h"
-#include "second.h"
 #include "tally.h"
 
 enum { SLOTS = 5, FULL_DIFFERENCES = 10 };

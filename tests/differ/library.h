@@ -1,33 +1,13 @@
-/* What the static libraries export.  A slice passes as pointer and length.
- *
- * The customers' header is included where it exists; its functions are
- * declared here too, so that the compiler holds the header to them. */
+/* What the static libraries export: the customers' header, and the probe. */
 #ifndef DIFFER_LIBRARY_H
 #define DIFFER_LIBRARY_H
 
-#include <stddef.h>
-#include <stdint.h>
+#include "../../include/uisnabar.h"
 
-#if defined(__has_include)
-#if __has_include("uisnabar.h")
-#include "uisnabar.h"
-#endif
-#endif
-
-/* Both return the verdict. */
-uint32_t uisnabar_judge(const uint8_t *program, size_t program_len,
-                        const uint8_t *memory, size_t memory_len,
-                        uint64_t pc, uint64_t fp,
-                        const uint8_t *exec, size_t exec_len,
-                        const uint8_t *ext, size_t ext_len,
-                        uint8_t *answer, size_t answer_len);
-uint32_t uisnabar_label(const uint8_t *text, size_t text_len,
-                        uint8_t *answer, size_t answer_len,
-                        uint8_t *recipe, size_t recipe_len);
-
-/* The probe, for tests only.  The first two return the verdict, the writer
- * the length written.  An answer buffer that is not 16 bytes keeps its bytes
- * and the verdict returned is ANSWER's, but the work is done all the same. */
+/* For tests only; a slice passes as pointer and length.  The first two return
+ * the verdict, the writer the length written.  An answer buffer that is not 16
+ * bytes keeps its bytes and the verdict returned is ANSWER's, but the work is
+ * done all the same. */
 uint32_t probe_table(const uint8_t *program, size_t program_len,
                      const uint8_t *memory, size_t memory_len,
                      uint64_t pc, uint64_t fp,

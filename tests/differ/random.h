@@ -3,7 +3,7 @@
 #ifndef DIFFER_RANDOM_H
 #define DIFFER_RANDOM_H
 
-#include "word.h"
+#include "../second/word.h"
 
 typedef struct {
     uint64_t state;

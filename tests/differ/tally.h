@@ -2,9 +2,9 @@
 #ifndef DIFFER_TALLY_H
 #define DIFFER_TALLY_H
 
-#include "second.h"
-
 #include <stdbool.h>
+
+#include "../second/second.h"
 
 enum function { JUDGE, LABEL_READER, TABLER, MAKER, LABEL_WRITER, FUNCTIONS };
 

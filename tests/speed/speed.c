@@ -8,10 +8,9 @@
 #include <string.h>
 #include <time.h>
 
-#include "../../include/uisnabar.h"
 #include "../second/second.h"
 #include "inputs.h"
-#include "probe.h"
+#include "../differ/library.h"
 
 enum { SIZES = 3, ROUNDS = 7 };
 

@@ -2,3 +2,5 @@ pub mod Tuples
 pub mod Orders
 pub mod Balances
 pub mod Passed
+pub mod Joined
+pub mod Windows

@@ -9,16 +9,22 @@ use native.Mathlib.Omega.{arith}
 use lib.ListN.{length}
 use lib.Dec.{leb}
 use borrow.Author.Tests.{leb-true, leb-false, eqb-true}
-use Rattle.form.specs.declared.Instruction.{Instruction}
 use Rattle.rows.specs.Rows.{execAt, extAt}
-use Rattle.rows.specs.declared.Exec.{Exec}
-use Rattle.rows.specs.declared.Ext.{Ext}
 use Rattle.rules.specs.Given.{either}
 use Rattle.rules.specs.Bus.{Tuple, sameTuple, pushed, pushes, pulled, pulls, total, pushedTo, pulledTo, instructionOf}
 use Rattle.judged.specs.First.{first}
 use Rattle.judged.proofs.FirstLaws.{is-first}
 use Rattle.rules.specs.Sizes.{given, tables}
-use Rattle.judge.specs.Bus.{idle, InOrder, pushesOf, pullsOf}
+use Rattle.judge.specs.Bus.{idle, InOrder}
+
+-- how often one row pushes, or pulls, a tuple
+abbrev pushesOf : List ℕ → List ℕ → Tuple → ℕ → ℕ
+pushesOf program exec σ r =
+    let i = instructionOf (given program []) (tables exec []) r in
+    either (sameTuple (pushed i (execAt exec (32 * r))) σ) (pushes i) 0
+
+abbrev pullsOf : List ℕ → Tuple → ℕ → ℕ
+pullsOf ext σ k = either (sameTuple (pulled (extAt ext (120 * k))) σ) (pulls (extAt ext (120 * k))) 0
 
 -- rows that add nothing leave the sum
 flat : (f : ℕ → ℕ) (k m : ℕ) → k ≤ m → ((j : ℕ) → k ≤ j → j < m → f j ≡ 0) → total f m ≡ total f k
@@ -41,31 +47,12 @@ pub one-more : (f : ℕ → ℕ) (n : ℕ) → total f (n + 1) ≡ total f n + f
 one-more f n = rw (add-one n)
 
 -- what a row counts of a tuple: nothing where it counts no tuple, and the same as another row of the same tuple
-counts-none : (b : Bool) (n : ℕ) → n ≡ 0 → either b n 0 ≡ 0
+pub counts-none : (b : Bool) (n : ℕ) → n ≡ 0 → either b n 0 ≡ 0
 counts-none true n e = e
 counts-none false n e = refl
 
 counts-same : (s t σ : Tuple) (n m : ℕ) → s ≡ t → n ≡ m → either (sameTuple s σ) n 0 ≡ either (sameTuple t σ) m 0
 counts-same s t σ n m e h = rw (e, h)
-
--- what the code of one row counts
-module _ (program exec : List ℕ) (σ : Tuple) (r : ℕ) (i : Instruction) (is : i ≡ instructionOf (given program []) (tables exec []) r) where
-  pub pushes-none : pushes i ≡ 0 → 0 ≡ pushesOf program exec σ r
-  pushes-none none =
-      let row = instructionOf (given program []) (tables exec []) r in
-      sym (counts-none (sameTuple (pushed row (execAt exec (32 * r))) σ) (pushes row) (rw is at none))
-
-  pub pushes-counted : (x : Exec) → x ≡ execAt exec (32 * r) → (t : Tuple) → t ≡ pushed i x → pushes i ≡ 1
-      → (b : Bool) → b ≡ sameTuple t σ → either b 1 0 ≡ pushesOf program exec σ r
-  pushes-counted x at t tuple once b same =
-      let row = instructionOf (given program []) (tables exec []) r in
-      rw same (counts-same t (pushed row (execAt exec (32 * r))) σ 1 (pushes row) (tuple ∙ λ j. pushed (is j) (at j)) (sym (rw is at once)))
-
-pub pulls-counted : (ext : List ℕ) (σ : Tuple) (k : ℕ) (y : Ext) → y ≡ extAt ext (120 * k) → (t : Tuple) → t ≡ pulled y
-    → (b : Bool) → b ≡ sameTuple t σ → either b (pulls y) 0 ≡ pullsOf ext σ k
-pulls-counted ext σ k y at t tuple b same =
-    let row = extAt ext (120 * k) in
-    rw same (counts-same t (pulled row) σ (pulls y) (pulls row) (tuple ∙ ap pulled at) (ap pulls at))
 
 module _ (program exec ext : List ℕ) where
   -- a row that pushes nothing

@@ -5,10 +5,10 @@ use mathlib.Core.List.{List, []}
 use Prim.Native.Nat.{ℕ, _*_, _/_, _≤_, _<_}
 use lib.ListN.{length}
 use Rattle.form.specs.Form.{wellFormed}
-use Rattle.rows.specs.Rows.{execAt, extAt}
+use Rattle.rows.specs.Rows.{extAt}
 use Rattle.rows.specs.declared.Ext.{Ext}
-use Rattle.rules.specs.Given.{zero?, either}
-use Rattle.rules.specs.Bus.{Tuple, sameTuple, pushed, pushes, pulled, pulls, pushedTo, pulledTo, instructionOf}
+use Rattle.rules.specs.Given.{zero?}
+use Rattle.rules.specs.Bus.{Tuple, pulls, pushedTo, pulledTo, instructionOf}
 use Rattle.rules.specs.Sizes.{given, tables}
 use Rattle.judge.specs.declared.Sent.{Sent}
 
@@ -38,12 +38,3 @@ idle ext k = zero? (pulls (extAt ext (120 * k)))
 -- the execution rows below r push what the extension rows below k pull
 abbrev pub InOrder : List ℕ → List ℕ → List ℕ → ℕ → ℕ → Type 0
 InOrder program exec ext r k = (σ : Tuple) → pushedTo (given program []) (tables exec ext) σ r ≡ pulledTo (tables exec ext) σ k
-
--- how often one row pushes, or pulls, a tuple
-abbrev pub pushesOf : List ℕ → List ℕ → Tuple → ℕ → ℕ
-pushesOf program exec σ r =
-    let i = instructionOf (given program []) (tables exec []) r in
-    either (sameTuple (pushed i (execAt exec (32 * r))) σ) (pushes i) 0
-
-abbrev pub pullsOf : List ℕ → Tuple → ℕ → ℕ
-pullsOf ext σ k = either (sameTuple (pulled (extAt ext (120 * k))) σ) (pulls (extAt ext (120 * k))) 0

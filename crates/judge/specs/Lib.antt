@@ -1,2 +1,4 @@
 pub mod Stages
 pub mod Bus
+pub mod Senders
+pub mod Window

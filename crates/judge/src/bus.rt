@@ -1,7 +1,6 @@
 // 7 BUS: one walk settles tables whose groups stand in execution order, as a tabler's do; any other is counted.
-use crate::count::first_pull;
-use crate::count::first_push;
 use crate::in_order::in_order;
+use crate::window::first_unequal;
 use answer::Answer;
 ghost use mathlib.Core.Path.{_≡_};
 ghost use mathlib.Core.List.{[]};
@@ -16,14 +15,15 @@ fn counted(program: &[u8], exec: &[u8], ext: &[u8]) -> Answer
     requires { ⌜ Short (now exec) × Short (now ext) ⌝ }
     ensures { λ r. ⌜ r ≡ bus (given (now (program .entry)) []) (tables (now (exec .entry)) (now (ext .entry))) ⌝ }
 {
-    let r = first_push(program, exec, ext);
-    if r < exec.len() / 32 {
+    let h = exec.len() / 32;
+    let j = first_unequal(program, exec, ext);
+    if j < h {
         return Answer::Bus {
             part: 3,
-            row: r as u32,
+            row: j as u32,
         };
     }
-    let k = first_pull(program, exec, ext);
+    let k = j - h;
     if k < ext.len() / 120 {
         return Answer::Bus {
             part: 4,

@@ -40,14 +40,14 @@ fn after_push(program: &[u8], exec: &[u8], ext: &[u8], r: usize, k: usize) -> us
         → InOrder (now (program .entry)) (now (exec .entry)) (now (ext .entry)) (r + 1) s) ⌝ }
 {
     let n = ext.len() / 120;
-    let i = instruction_of(program, exec, r);
-    if !pushing(i) {
+    if !pushing(program, exec, r) {
         return k;
     }
     let at = next_pull(ext, k);
     if n <= at {
         return n + 1;
     }
+    let i = instruction_of(program, exec, r);
     let x = exec_row(exec, 32 * r);
     if matched(i, x, flagged_row(ext, at)) {
         return at + 1;

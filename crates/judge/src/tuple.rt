@@ -9,19 +9,18 @@ use rows::ext_row;
 use word::P;
 use word::word_at;
 ghost use mathlib.Core.Path.{_≡_};
-ghost use mathlib.Core.Bool.{true, _&&_};
+ghost use mathlib.Core.Bool.{_&&_};
 ghost use mathlib.Core.List.{[]};
 ghost use lib.ListN.{length};
 ghost use lib.Dec.{eqb};
 ghost use Prim.Native.Nat.{_*_, _/_, _<_, _≤_};
-ghost use Rattle.form.specs.Form.{wellFormed};
 ghost use Rattle.rows.specs.Rows.{extAt};
 ghost use Rattle.rules.specs.Given.{either};
 ghost use Rattle.rules.specs.Bus.{sameTuple, pushed, pushes, pulled, pulls, instructionOf};
 ghost use Rattle.rules.specs.Sizes.{given, tables};
 ghost use Rattle.judge.specs.Bus.{tupleOf, Formed, Flags, Flagged};
 
-fn wide(x: u32) -> u64
+pub fn wide(x: u32) -> u64
     ensures { λ r. ⌜ (r ≡ x) × (r < 4294967296) ⌝ }
 {
     x as u64
@@ -29,12 +28,25 @@ fn wide(x: u32) -> u64
 
 // The instruction of execution row r, of which only pc is read.
 pub fn instruction_of(program: &[u8], exec: &[u8], r: usize) -> Instruction
-    requires { ⌜ Formed (now program) (now exec) ⌝ }
     requires { ⌜ r < length (now exec) / 32 ⌝ }
-    ensures { λ i. ⌜ (i ≡ instructionOf (given (now (program .entry)) []) (tables (now (exec .entry)) []) r) × (wellFormed i ≡ true) ⌝ }
+    ensures { λ i. ⌜ i ≡ instructionOf (given (now (program .entry)) []) (tables (now (exec .entry)) []) r ⌝ }
 {
     let pc = word_at(exec, 32 * r);
     instruction_at(program, 48 * (pc as usize))
+}
+
+// Whether execution row r pushes: a well-formed instruction with no opcode word is a precompile and pushes once; any other doesn't
+// push. Of most rows no more is read.
+pub fn pushing(program: &[u8], exec: &[u8], r: usize) -> bool
+    requires { ⌜ Formed (now program) (now exec) ⌝ }
+    requires { ⌜ r < length (now exec) / 32 ⌝ }
+    ensures { λ b. ⌜ either b 1 0 ≡ pushes (instructionOf (given (now (program .entry)) []) (tables (now (exec .entry)) []) r) ⌝ }
+{
+    let pc = word_at(exec, 32 * r);
+    let at = 48 * (pc as usize);
+    (word_at(program, at + 32) == 0)
+        & (word_at(program, at + 36) == 0)
+        & (word_at(program, at + 40) == 0)
 }
 
 // Extension row k.
@@ -79,14 +91,6 @@ pub fn same(s: Sent, t: Sent) -> bool
     ensures { λ r. ⌜ r ≡ sameTuple (tupleOf s) (tupleOf t) ⌝ }
 {
     (s.aux == t.aux) & (s.left == t.left) & (s.right == t.right) & (s.out == t.out)
-}
-
-// A well-formed instruction with no opcode word is a precompile and pushes once; any other doesn't push.
-pub fn pushing(i: Instruction) -> bool
-    requires { ⌜ wellFormed i ≡ true ⌝ }
-    ensures { λ r. ⌜ either r 1 0 ≡ pushes i ⌝ }
-{
-    (i.mul == 0) & (i.jump == 0) & (i.aux == 0)
 }
 
 // How often a row pulls: the whole number, not 0 or 1.

@@ -1,4 +1,4 @@
--- What holds of every row's instruction holds of the one that is read.
+-- The row's first word is pc.
 use Rattle.rows.specs.Rows.{execAt}
 use borrow.Author.Needs.{needs}
 use Rattle.judge.proofs.tuple.instruction_of.Statement.{statement}
@@ -6,10 +6,7 @@ use Rattle.judge.proofs.tuple.instruction_of.Tie as tie
 
 returns : tie.Need-returns
 unfolding execAt
-returns c =
-    let start = c .before .before .before .before in
-    let word-at = c .before .word-at in
-    (rw (c .instruction-at .ensures, word-at .ensures), rw (c .instruction-at .ensures, word-at .ensures) (start .pre .0 (start .args .r) (start .pre .1)))
+returns c = rw (c .instruction-at .ensures, c .before .word-at .ensures)
 
 pub instruction-of-spec : {M : Type 1} → statement M
 instruction-of-spec =

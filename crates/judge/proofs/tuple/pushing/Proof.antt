@@ -1,10 +1,34 @@
 -- Of the five kinds only the extension has no opcode word.
+use borrow.Author.Needs.{needs}
+use mathlib.Core.List.{[]}
+use Rattle.form.specs.Instruction.{instructionAt}
+use Rattle.rows.specs.Rows.{execAt}
+use Rattle.rules.specs.Bus.{instructionOf}
+use Rattle.rules.specs.Sizes.{given, tables}
 use Rattle.judge.proofs.Tuples.{pushes-once}
 use Rattle.judge.proofs.tuple.pushing.Statement.{statement}
 use Rattle.judge.proofs.tuple.pushing.Tie as tie
 
 returns : tie.Need-returns
-returns c = pushes-once (c .before .before .before .args .i) (c .before .before .before .pre)
+unfolding instructionAt execAt
+returns c =
+    let start = c .before .before .before .before .before .before in
+    let i = instructionOf (given (start .args .program .now) []) (tables (start .args .exec .now) []) (start .args .r) in
+    rw (c .word-at4 .ensures, c .before .word-at3 .ensures, c .before .before .word-at2 .ensures, c .before .before .before .word-at .ensures)
+    (pushes-once i (start .pre .0 (start .args .r) (start .pre .1)))
 
 pub pushing-spec : {M : Type 1} → statement M
-pushing-spec = tie.close (tie.spec returns)
+pushing-spec =
+    tie.close
+    (tie.spec
+    (λ c. search needs)
+    (λ c κs. search needs)
+    (λ c. search needs)
+    (λ c. search needs)
+    (λ c. search needs)
+    (λ c κs. search needs)
+    (λ c. search needs)
+    (λ c κs. search needs)
+    (λ c. search needs)
+    (λ c κs. search needs)
+    returns)

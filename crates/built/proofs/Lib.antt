@@ -1,0 +1,4 @@
+pub mod Answers
+pub mod Recipes
+pub mod Cut
+pub mod Output

@@ -1,0 +1,4 @@
+pub mod Built
+pub mod Recipes
+pub mod Output
+pub mod Inner

@@ -1,0 +1,21 @@
+-- Each field is the row's.
+use borrow.Author.Needs.{needs}
+use mathlib.Core.Path.{ap, _∙_}
+use Rattle.rules.specs.Bus.{pulled, pulls}
+use Rattle.judge.proofs.sender.puller.Statement.{statement}
+use Rattle.judge.proofs.sender.puller.Tie as tie
+
+returns : tie.Need-returns
+returns c =
+    let row = c .before .before .flagged-row .ensures .0 in
+    let times = c .before .pull-times .ensures in
+    record {
+      plus-is = search needs;
+      minus-is = times .0 ∙ ap pulls row;
+      once = search needs;
+      thrice = times .1;
+      tuple-is = λ _. c .pulled-tuple .ensures ∙ ap pulled row;
+    }
+
+pub puller-spec : {M : Type 1} → statement M
+puller-spec = tie.close (tie.spec (λ c κs. search needs) (λ c κs. search needs) (λ c κs. search needs) returns)

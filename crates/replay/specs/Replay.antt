@@ -1,0 +1,56 @@
+-- Document 01, "Draws, recipe, label": what the replay program prints for a text.
+use Prim.Native.Nat.{ℕ}
+use mathlib.Core.Bool.{cond}
+use mathlib.Core.List.{List, [], _∷_, _++_}
+use lib.Dec.{eqb}
+use Rattle.answer.specs.Verdicts.{numbersOf}
+use Rattle.answer.specs.declared.Numbers.{Numbers}
+use Rattle.answer.specs.declared.Answer.{Answer}
+use Rattle.answer.specs.declared.Answer.the-variants.{Accepted, Size, Itself}
+use Rattle.label.specs.Label.{labelOf}
+use Rattle.label.specs.declared.Reading.{Reading}
+use Rattle.label.specs.declared.Recipe.{Recipe}
+use Rattle.maker.specs.Bytes.{programOf, memoryOf}
+use Rattle.judged.specs.Judged.{judgeOf}
+use Rattle.built.specs.Built.{accepted}
+use Rattle.built.specs.Recipes.{tabledOf, execOf, extOf}
+use Rattle.printed.specs.Line.{lineOf}
+
+-- verdict=, part=, place= and rule=
+abbrev pub verdictText : List ℕ
+verdictText = 118 ∷ 101 ∷ 114 ∷ 100 ∷ 105 ∷ 99 ∷ 116 ∷ 61 ∷ []
+
+abbrev pub partText : List ℕ
+partText = 112 ∷ 97 ∷ 114 ∷ 116 ∷ 61 ∷ []
+
+abbrev pub placeText : List ℕ
+placeText = 112 ∷ 108 ∷ 97 ∷ 99 ∷ 101 ∷ 61 ∷ []
+
+abbrev pub ruleText : List ℕ
+ruleText = 114 ∷ 117 ∷ 108 ∷ 101 ∷ 61 ∷ []
+
+-- the four lines of an answer
+abbrev pub fourLines : Numbers → List ℕ
+fourLines n =
+    lineOf verdictText (n .verdict) ++ lineOf partText (n .part) ++ lineOf placeText (n .place) ++ lineOf ruleText (n .rule)
+
+unfoldable pub linesOf : Answer → List ℕ
+linesOf a = fourLines (numbersOf a)
+
+-- the judge's answer to the recipe's own tables
+unfoldable pub judgedOf : Recipe → Answer
+judgedOf r =
+    judgeOf (record { program = programOf r; memory = memoryOf r; exec = execOf r; ext = extOf r; pc = 0; fp = 0 })
+
+-- SELF where tabler or judge refuses them
+unfoldable pub ownOf : Recipe → Answer
+ownOf r = cond (accepted (tabledOf r)) (cond (accepted (judgedOf r)) Accepted Itself) Itself
+
+-- the program takes m = 10 only; another is SIZE part 2
+unfoldable pub replayOf : Recipe → Answer
+replayOf r = cond (eqb (r .m) 10) (ownOf r) (Size 2 0)
+
+-- a bad label's four lines alone; else the label and then the four lines
+unfoldable pub outputOf : Reading → List ℕ
+outputOf r =
+    cond (accepted (r .answer)) (labelOf (r .recipe) ++ linesOf (replayOf (r .recipe))) (linesOf (r .answer))

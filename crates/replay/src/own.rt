@@ -1,0 +1,66 @@
+// A recipe's own tables, made and judged.
+use answer::Answer;
+use built::accepted;
+use built::build;
+use built::exec_space;
+use built::ext_space;
+use built::memory_space;
+use built::program_space;
+use judge::judge;
+use label::Recipe;
+ghost use mathlib.Core.Bool.{true};
+ghost use mathlib.Core.Path.{_≡_};
+ghost use lib.ListN.{length};
+ghost use Rattle.label.specs.Label.{ranged};
+ghost use Rattle.built.specs.Inner.{Spaces};
+ghost use Rattle.replay.specs.Replay.{ownOf, replayOf};
+
+// ACCEPTED, or SELF where tabler or judge refuses the tables.
+fn own(
+    recipe: Recipe,
+    program: &mut [u8],
+    memory: &mut [u8],
+    exec: &mut [u8],
+    ext: &mut [u8],
+) -> Answer
+    requires { ⌜ Spaces recipe (length (now program)) (length (now memory)) (length (now exec)) (length (now ext)) ⌝ }
+    ensures { λ r. ⌜ r ≡ ownOf recipe ⌝ }
+{
+    if !accepted(build(recipe, program, memory, exec, ext)) {
+        return Answer::Itself;
+    }
+    if accepted(judge(program, memory, 0, 0, exec, ext)) {
+        return Answer::Accepted;
+    }
+    Answer::Itself
+}
+
+// The same in buffers of its own.
+fn own_in_space(recipe: Recipe) -> Answer
+    requires { ⌜ (ranged recipe ≡ true) × (recipe .m ≡ 10) ⌝ }
+    ensures { λ r. ⌜ r ≡ ownOf recipe ⌝ }
+{
+    let mut program = program_space();
+    let mut memory = memory_space();
+    let mut exec = exec_space();
+    let mut ext = ext_space();
+    let end = 48 * (recipe.n as usize + 1);
+    own(
+        recipe,
+        &mut program[..end],
+        &mut memory,
+        &mut exec,
+        &mut ext,
+    )
+}
+
+// The program takes m = 10 only.
+pub fn answer_to(recipe: Recipe) -> Answer
+    requires { ⌜ ranged recipe ≡ true ⌝ }
+    ensures { λ r. ⌜ r ≡ replayOf recipe ⌝ }
+{
+    if recipe.m != 10 {
+        return Answer::Size { part: 2, place: 0 };
+    }
+    own_in_space(recipe)
+}

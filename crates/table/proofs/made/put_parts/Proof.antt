@@ -1,0 +1,24 @@
+-- `made::put_parts` meets its contract: each part goes where the one before it ends.
+use borrow.Author.Needs.{needs}
+use Prim.Native.Nat.{_+_, _≤_}
+use mathlib.Core.List.{_++_}
+use native.Mathlib.Omega.{arith}
+use lib.ListN.{length}
+use Rattle.built.proofs.Output.{fills-front}
+use Rattle.printed.proofs.Placing.{stands-four}
+use Rattle.table.proofs.made.put_parts.Statement.{statement}
+use Rattle.table.proofs.made.put_parts.Tie as tie
+
+returns : tie.Need-returns
+returns c =
+    let s = c .before .before .before .before .before .before .before .before .before .before .before .before .before .before .before .before .before .before .before .before .before in
+    let a = s .args in
+    let room : 0 + length (a .program .now) + length (a .memory .now) + length (a .exec .now) + length (a .ext .now) ≤ length (a .out .now) = omega (arith, s .pre) in
+    fills-front (a .program .now ++ a .memory .now ++ a .exec .now ++ a .ext .now) (a .out .now)
+    (stands-four (a .out .now) 0 (a .program .now) (a .memory .now) (a .exec .now) (a .ext .now) room
+    (c .before .before .before .before .before .before .before .before .before .before .before .before .before .before .put .ensures) (c .before .before .before .before .before .before .before .before .before .before .put2 .ensures) (c .before .before .before .before .before .before .put3 .ensures) (c .before .before .put4 .ensures))
+
+pub put-parts-spec : {M : Type 1} → statement M
+put-parts-spec =
+    tie.close
+    (tie.spec (λ c κs. search needs) (λ c κs. search needs) (λ c κs. search needs) (λ c κs. search needs) (λ c. search needs) returns)

@@ -1,0 +1,17 @@
+-- Document 01, "Draws, recipe, label": what the table program writes for a text.
+use Prim.Native.Nat.{ℕ}
+use mathlib.Core.Bool.{cond}
+use mathlib.Core.List.{List, []}
+use lib.Dec.{eqb}
+use Rattle.label.specs.declared.Reading.{Reading}
+use Rattle.label.specs.declared.Recipe.{Recipe}
+use Rattle.built.specs.Built.{accepted}
+use Rattle.built.specs.Recipes.{tabledOf, partsOf}
+
+-- parts 1 to 4 in order; nothing where the tabler refuses
+unfoldable pub tablesOf : Recipe → List ℕ
+tablesOf r = cond (accepted (tabledOf r)) (partsOf r) []
+
+-- nothing for a bad label or another m than 10
+unfoldable pub outputOf : Reading → List ℕ
+outputOf r = cond (accepted (r .answer)) (cond (eqb (r .recipe .m) 10) (tablesOf (r .recipe)) []) []

@@ -1,0 +1,22 @@
+// All that the program writes.
+use crate::made::tables_in_space;
+use built::accepted;
+use label::read_label;
+ghost use Rattle.built.specs.Output.{Outputs};
+ghost use Rattle.table.specs.Table.{outputOf};
+
+// The four parts of a label with m 10; nothing for a bad label or another m.
+pub fn table_label(text: &[u8], out: &mut [u8; 49008]) -> usize
+    ensures { λ r. ⌜ Outputs outputOf (now (text .entry)) (now (out .entry)) (now (out .exit)) r ⌝ }
+{
+    let reading = read_label(text);
+    let read = reading.answer;
+    let recipe = reading.recipe;
+    if !accepted(read) {
+        return 0;
+    }
+    if recipe.m != 10 {
+        return 0;
+    }
+    tables_in_space(recipe, out)
+}
