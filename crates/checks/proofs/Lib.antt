@@ -1,1 +1,4 @@
 pub mod Shut
+pub mod Quick
+pub mod QuickExec
+pub mod QuickExt

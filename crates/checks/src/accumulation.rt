@@ -9,13 +9,16 @@ use word::scale;
 use word::sub;
 use word::sum;
 ghost use mathlib.Core.Path.{_≡_};
-ghost use Rattle.word.specs.Element.{_-ₑ_, _·ₑ_};
+ghost use mathlib.Core.Bool.{_&&_};
+ghost use lib.Dec.{ltb};
+ghost use Rattle.word.specs.Word.{p};
+ghost use Rattle.word.specs.Element.{_⟨_⟩, _-ₑ_, _·ₑ_};
 ghost use Rattle.rules.specs.Given.{zeroElement?};
 ghost use Rattle.rules.specs.Extension.{selected, compTail};
 ghost use Rattle.checks.specs.ExtParts.{sumOf, productOf, peqOf, operatesThen, accumulatesThen};
 
 // A flag times the difference of two elements is 0 in every coordinate.
-fn gated_elements(flag: u32, a: [u32; 5], b: [u32; 5]) -> bool
+fn gated_each(flag: u32, a: [u32; 5], b: [u32; 5]) -> bool
     ensures { λ r. ⌜ r ≡ zeroElement? (flag ·ₑ (a -ₑ b)) ⌝ }
 {
     gated(flag, a[0], b[0])
@@ -23,6 +26,19 @@ fn gated_elements(flag: u32, a: [u32; 5], b: [u32; 5]) -> bool
         & gated(flag, a[2], b[2])
         & gated(flag, a[3], b[3])
         & gated(flag, a[4], b[4])
+}
+
+// The same. In a table that is accepted the flag is 0 or the two are equal: then nothing is computed.
+fn gated_elements(flag: u32, a: [u32; 5], b: [u32; 5]) -> bool
+    ensures { λ r. ⌜ r ≡ zeroElement? (flag ·ₑ (a -ₑ b)) ⌝ }
+{
+    if flag == 0 {
+        return true;
+    }
+    if (a[0] == b[0]) & (a[1] == b[1]) & (a[2] == b[2]) & (a[3] == b[3]) & (a[4] == b[4]) {
+        return true;
+    }
+    gated_each(flag, a, b)
 }
 
 // Each rule is open on few rows: where its flag is 0 nothing is computed.
@@ -61,13 +77,40 @@ fn peqs_hold(
     gated_elements(flag, comp, product(peq(v, b), sum(tail, one)))
 }
 
-// be·base + (1 - be)·vA
+fn is_element(a: [u32; 5]) -> bool
+    ensures { λ r. ⌜ r ≡ (ltb (a ⟨ 0 ⟩) p && ltb (a ⟨ 1 ⟩) p && ltb (a ⟨ 2 ⟩) p && ltb (a ⟨ 3 ⟩) p && ltb (a ⟨ 4 ⟩) p) ⌝ }
+{
+    (a[0] < 2130706433)
+        & (a[1] < 2130706433)
+        & (a[2] < 2130706433)
+        & (a[3] < 2130706433)
+        & (a[4] < 2130706433)
+}
+
+// be·base + (1 - be)·vA. Words are left as they are.
 fn selected_element(x: Ext) -> [u32; 5]
     ensures { λ r. ⌜ r ≡ selected x ⌝ }
 {
     let base: [u32; 5] = [x.base, 0, 0, 0, 0];
     let left = x.vA;
+    if (x.be == 0) & is_element(left) {
+        return [left[0], left[1], left[2], left[3], left[4]];
+    }
+    if (x.be == 1) & (x.base < 2130706433) {
+        return base;
+    }
     sum(scale(x.be, base), scale(sub(1, x.be), left))
+}
+
+// (1 - next start)·next comp
+fn tail_of(y: Ext) -> [u32; 5]
+    ensures { λ r. ⌜ r ≡ compTail y ⌝ }
+{
+    let next = y.comp;
+    if (y.start == 0) & is_element(next) {
+        return [next[0], next[1], next[2], next[3], next[4]];
+    }
+    scale(sub(1, y.start), next)
 }
 
 // Rules 6 to 8.
@@ -76,9 +119,8 @@ fn operates(x: Ext, y: Ext, rest: u32) -> u32
 {
     let b = x.vB;
     let comp = x.comp;
-    let next = y.comp;
     let v = selected_element(x);
-    let tail = scale(sub(1, y.start), next);
+    let tail = tail_of(y);
     let sums = sums_hold(x.add, comp, v, b, tail);
     let products = products_hold(x.mul, comp, v, b, tail);
     let peqs = peqs_hold(x.peq, comp, v, b, tail, y.start);

@@ -1,6 +1,8 @@
 // The rules of one row: the first that fails on an execution row, or on an extension row.
 mod accumulation;
+mod exec_quick;
 mod execution;
+mod ext_quick;
 mod extension;
 mod lookup;
 

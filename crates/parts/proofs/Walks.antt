@@ -2,8 +2,8 @@
 -- Assumes nothing.
 use mathlib.Core.Path.{_≡_, sym, _∙_, refl}
 use mathlib.Core.Bool.{Bool, true, false}
-use Prim.Native.Nat.{ℕ, _+_, _-_, _≤_, _<_, zero-le}
-use native.Mathlib.Nat.{sub-zero}
+use Prim.Native.Nat.{ℕ, zero, suc, _+_, _-_, _≤_, _<_, zero-le}
+use native.Mathlib.Nat.{sub-zero, add-zero}
 use native.Mathlib.Omega.{arith}
 use Rattle.judged.specs.First.{first}
 use Rattle.judged.proofs.FirstLaws.{stops, goes-on, ends}
@@ -27,3 +27,14 @@ module _ {passes : ℕ → Bool} {n answer i : ℕ} (walk : Walk passes n answer
 
   pub finds-none : n ≤ i → i ≡ answer
   finds-none h = sym (walk .left ∙ ends passes i n h)
+
+  -- as many at once as are tested together
+  pub goes-past-all : (k : ℕ) → i + k ≤ n → ((j : ℕ) → j < k → passes (i + j) ≡ true) → Walk passes n answer (i + k)
+  goes-past-all zero h all = rw (add-zero i) walk
+  goes-past-all (suc k) h all =
+      let next : i + suc k ≡ i + k + 1 = omega arith in
+      rw next
+      (record {
+        within = omega arith;
+        left = goes-past-all k (omega arith) (λ j l. all j (omega arith)) .left ∙ goes-on passes (i + k) n (omega arith) (all k (omega arith));
+      })

@@ -4,15 +4,73 @@ use form::well_formed;
 use word::word_at;
 ghost use mathlib.Core.Path.{_≡_};
 ghost use mathlib.Core.List.{[]};
-ghost use Rattle.judged.specs.Judged.{firstWord, firstMalformed};
+ghost use Prim.Native.Nat.{_+_, _-_, _*_, _/_, _≤_, _<_};
+ghost use lib.ListN.{length};
+ghost use Rattle.word.specs.Bytes.{wordAt};
+ghost use Rattle.judged.specs.First.{first};
+ghost use Rattle.judged.specs.Judged.{isWord, firstWord, firstMalformed};
 ghost use Rattle.rules.specs.Sizes.{given};
+ghost use Rattle.parts.specs.Words.{eightWords};
+
+fn wide(x: u8) -> u32
+    ensures { λ r. ⌜ (r ≡ x) × (r < 256) ⌝ }
+{
+    x as u32
+}
+
+// A word whose four bytes are there: it is read with no test.
+fn word_inside(s: &[u8], at: usize) -> u32
+    requires { ⌜ at + 4 ≤ length (now s) ⌝ }
+    ensures { λ r. ⌜ r ≡ wordAt (now (s .entry)) at ⌝ }
+{
+    wide(s[at]) + 256 * wide(s[at + 1]) + 65536 * wide(s[at + 2]) + 16777216 * wide(s[at + 3])
+}
+
+// Whether a word that is there is one, below p.
+fn is_word(s: &[u8], k: usize) -> bool
+    requires { ⌜ 4 * k + 4 ≤ length (now s) ⌝ }
+    ensures { λ r. ⌜ r ≡ isWord (now (s .entry)) k ⌝ }
+{
+    word_inside(s, 4 * k) < 2130706433
+}
+
+// The same of eight from one on, without a branch.
+fn are_words(s: &[u8], k: usize) -> bool
+    requires { ⌜ 4 * k + 32 ≤ length (now s) ⌝ }
+    ensures { λ r. ⌜ r ≡ eightWords (now (s .entry)) k ⌝ }
+{
+    is_word(s, k)
+        & is_word(s, k + 1)
+        & is_word(s, k + 2)
+        & is_word(s, k + 3)
+        & is_word(s, k + 4)
+        & is_word(s, k + 5)
+        & is_word(s, k + 6)
+        & is_word(s, k + 7)
+}
+
+// The first eight of which not all are words, or fewer than eight at the end: the search goes on from there.
+fn first_eight(bytes: &[u8]) -> usize
+    ensures { λ r. ⌜ (r ≤ length (now (bytes .entry)) / 4)
+        × (firstWord (now (bytes .entry)) ≡ first (isWord (now (bytes .entry))) r (length (now (bytes .entry)) / 4 - r)) ⌝ }
+{
+    let n = bytes.len() / 4;
+    let mut i = 0;
+    while i + 8 <= n {
+        if !are_words(bytes, i) {
+            return i;
+        }
+        i += 8;
+    }
+    i
+}
 
 // The first word at or above p; their number where there is none.
 pub fn first_word(bytes: &[u8]) -> usize
     ensures { λ r. ⌜ r ≡ firstWord (now (bytes .entry)) ⌝ }
 {
     let n = bytes.len() / 4;
-    let mut i = 0;
+    let mut i = first_eight(bytes);
     while i < n {
         if 2130706433 <= word_at(bytes, 4 * i) {
             return i;

@@ -69,10 +69,9 @@ module _ (row : ℕ → List ℕ) where
   rows-same other zero h = refl
   rows-same other (suc n) h = ap₂ _++_ (rows-same other n (λ j b. h j (omega arith))) (h n (omega arith))
 
-  pub no-rows : (t : List ℕ) (size n : ℕ) → length t ≡ size * n → n ≡ 0 → t ≡ rowsOf row n
+  pub no-rows : {n : ℕ} → n ≡ 0 → rowsOf row n ≡ []
   unfolding rowsOf
-  no-rows [] size n e z = rw z
-  no-rows (x ∷ t) size n e z = absurd (omega (arith, rw (z, mul-zero size) at e))
+  no-rows z = rw z
 
   one-more : (j : ℕ) → 0 < j → (rest : List ℕ) → rowsOf row (j - 1) ++ (row (j - 1) ++ rest) ≡ rowsOf row j ++ rest
   unfolding rowsOf

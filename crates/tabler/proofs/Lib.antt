@@ -1,5 +1,6 @@
 pub mod Results
 pub mod Lent
+pub mod Looking
 pub mod Standing
 pub mod Going
 pub mod Running

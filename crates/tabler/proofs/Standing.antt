@@ -9,9 +9,11 @@ use Rattle.form.specs.declared.Form.{Form}
 use Rattle.form.specs.declared.Kind.the-variants.{Add, Mul, Deref, Jump, Extension}
 use Rattle.form.specs.declared.Kind.{Kind}
 use Rattle.machine.specs.Machine.{Machine, State, value}
-use Rattle.tables.specs.Groups.{padding, lengthAt, stepRowBy, stepRow, extRowOf, filled}
+use Rattle.tables.specs.Bytes.{rowsOf}
+use Rattle.tables.specs.Groups.{padding, lengthOf, lengthAt, stepRowBy, stepRow, extRowOf, filled}
 use Rattle.tables.specs.Rows.{formAt}
-use Rattle.tabler.specs.Placed.{kindRow}
+use Rattle.tabler.specs.Placed.{extBytes, kindRow, kindRows}
+use Rattle.tabler.proofs.Lent.{rows-same}
 
 module _ (m : Machine) (state : ℕ → State) where
   -- the rows that d steps from step i on fill
@@ -68,3 +70,11 @@ kind-row m s f a b c j e ea eb ec = rw (ea, eb, ec, e) (by (formAt m s .kind))
     by Deref = refl
     by Jump = refl
     by (Extension op be n) = refl
+
+-- all its rows
+pub kind-rows : (m : Machine) (s : State) (f : Form) (a b c : ℕ)
+    → f ≡ formAt m s → a ≡ value m s (f .a) → b ≡ value m s (f .b) → c ≡ value m s (f .c)
+    → kindRows (m .cell) (f .kind) a b c ≡ rowsOf (λ j. extBytes (stepRow m s j)) (lengthOf (f .kind))
+kind-rows m s f a b c e ea eb ec =
+    rows-same (λ j. extBytes (kindRow (m .cell) (f .kind) a b c j)) (λ j. extBytes (stepRow m s j)) (lengthOf (f .kind))
+    (λ j h. ap extBytes (kind-row m s f a b c j e ea eb ec))

@@ -1,3 +1,4 @@
 pub mod Moves
+pub mod Looked
 pub mod Placed
 pub mod Ends

@@ -1,5 +1,5 @@
 // What an extension instruction asks of its elements.
-use crate::reads::cell;
+use crate::Joined;
 use crate::reads::element_at;
 use form::Op;
 use word::peq;
@@ -9,16 +9,28 @@ ghost use mathlib.Core.Path.{_≡_};
 ghost use Prim.Native.Nat.{_/_, _<_, _^_};
 ghost use lib.ListN.{length};
 ghost use Rattle.rules.specs.Sizes.{wordOf};
-ghost use Rattle.machine.specs.Extension.{elementAt, leftAt, rightAt, leftSpan, cellsExist, termOf, joined, nothing, result, sameElement};
+ghost use Rattle.machine.specs.Extension.{elementAt, leftSpan, cellsExist, termOf, joined, nothing, result, sameElement};
+ghost use Rattle.tables.specs.Groups.{leftIndex};
+ghost use Rattle.tabler.specs.Placed.{leftOf, joinedAt};
 
-// a_i: five cells, or with be the one cell.
-fn left_at(memory: &[u8], be: bool, a: u32, i: u32) -> [u32; 5]
-    ensures { λ r. ⌜ r ≡ leftAt (wordOf (now (memory .entry))) be a i ⌝ }
+// a_i of its five cells: with be the first alone.
+fn left_of(be: bool, v: [u32; 5]) -> [u32; 5]
+    ensures { λ r. ⌜ r ≡ leftOf be v ⌝ }
 {
     if be {
-        return [cell(memory, (a as usize) + (i as usize)), 0, 0, 0, 0];
+        return [v[0], 0, 0, 0, 0];
     }
-    element_at(memory, (a as usize) + 5 * (i as usize))
+    v
+}
+
+// Where a_i starts.
+fn left_from(be: bool, a: u32, i: u32) -> usize
+    ensures { λ r. ⌜ (r ≡ leftIndex be a i) × (r < 2 ^ 39) ⌝ }
+{
+    if be {
+        return (a as usize) + (i as usize);
+    }
+    (a as usize) + 5 * (i as usize)
 }
 
 fn term_of(op: Op, a: [u32; 5], b: [u32; 5]) -> [u32; 5]
@@ -51,7 +63,7 @@ pub fn none(op: Op) -> [u32; 5]
     }
 }
 
-// The term of element i, joined to what comes after it.
+// Element i, and its term joined to what comes after it.
 pub fn with_element(
     memory: &[u8],
     op: Op,
@@ -60,12 +72,13 @@ pub fn with_element(
     b: u32,
     i: u32,
     rest: [u32; 5],
-) -> [u32; 5]
-    ensures { λ r. ⌜ r ≡ joined op (termOf op (leftAt (wordOf (now (memory .entry))) be a i) (rightAt (wordOf (now (memory .entry))) b i)) rest ⌝ }
+) -> Joined
+    ensures { λ r. ⌜ r ≡ joinedAt (wordOf (now (memory .entry))) op be a b i rest ⌝ }
 {
-    let x = left_at(memory, be, a, i);
-    let y = element_at(memory, (b as usize) + 5 * (i as usize));
-    join(op, term_of(op, x, y), rest)
+    let left = element_at(memory, left_from(be, a, i));
+    let right = element_at(memory, (b as usize) + 5 * (i as usize));
+    let comp = join(op, term_of(op, left_of(be, left), right), rest);
+    Joined { left, right, comp }
 }
 
 // The sum or product over n elements, from the last back to the first.
@@ -77,12 +90,12 @@ fn result_of(memory: &[u8], op: Op, be: bool, n: u32, a: u32, b: u32) -> [u32; 5
     while 0 < j {
         j = j - 1;
         let more = with_element(memory, op, be, a, b, j, rest);
-        rest = more;
+        rest = more.comp;
     }
     rest
 }
 
-fn same(x: [u32; 5], y: [u32; 5]) -> bool
+pub fn same(x: [u32; 5], y: [u32; 5]) -> bool
     ensures { λ r. ⌜ r ≡ sameElement x y ⌝ }
 {
     (x[0] == y[0]) & (x[1] == y[1]) & (x[2] == y[2]) & (x[3] == y[3]) & (x[4] == y[4])

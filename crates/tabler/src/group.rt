@@ -1,4 +1,5 @@
 // The extension rows of a step's group, and the padding.
+use crate::Joined;
 use crate::elements::none;
 use crate::elements::with_element;
 use crate::reads::cell;
@@ -14,7 +15,7 @@ ghost use Rattle.rules.specs.Sizes.{wordOf};
 ghost use Rattle.machine.specs.Extension.{result};
 ghost use Rattle.tables.specs.Groups.{flagAdd, flagMul, flagPeq, leftIndex, groupRow, padding};
 ghost use Rattle.tables.specs.Bytes.{rowsOf};
-ghost use Rattle.tabler.specs.Placed.{extBytes};
+ghost use Rattle.tabler.specs.Placed.{rowWith, extBytes};
 
 fn add_flag(op: Op) -> u32
     ensures { λ r. ⌜ r ≡ flagAdd op ⌝ }
@@ -62,9 +63,8 @@ fn left_index(be: bool, a: u32, j: u32) -> u32
     a + 5 * j
 }
 
-// Row j of a group, with what is left accumulated.
+// Row j of a group: its element, with what is left accumulated, and the five cells at C.
 fn group_row(
-    memory: &[u8],
     op: Op,
     be: bool,
     n: u32,
@@ -72,13 +72,16 @@ fn group_row(
     b: u32,
     c: u32,
     j: u32,
-    comp: [u32; 5],
+    e: Joined,
+    res: [u32; 5],
 ) -> Ext
-    requires { ⌜ (j < n) × (a + 5 * n < 2 ^ 32) × (b + 5 * n < 2 ^ 32) × (comp ≡ result (wordOf (now memory)) op be a b j (n - j)) ⌝ }
-    ensures { λ r. ⌜ r ≡ groupRow (wordOf (now (memory .entry))) op be n a b c j ⌝ }
+    requires { ⌜ (j < n) × (a + 5 * n < 2 ^ 32) × (b + 5 * n < 2 ^ 32) ⌝ }
+    ensures { λ r. ⌜ r ≡ rowWith op be n a b c j e res ⌝ }
 {
     let left = left_index(be, a, j);
-    let right = b + 5 * j;
+    let vA = e.left;
+    let vB = e.right;
+    let comp = e.comp;
     Ext {
         start: bit_of(j == 0),
         add: add_flag(op),
@@ -86,35 +89,44 @@ fn group_row(
         peq: peq_flag(op),
         len: n - j,
         idxA: left,
-        idxB: right,
+        idxB: b + 5 * j,
         idxR: c,
         be: bit_of(be),
-        base: cell(memory, left as usize),
-        vA: element_at(memory, left as usize),
-        vB: element_at(memory, right as usize),
+        base: vA[0],
+        vA,
+        vB,
         comp,
-        res: element_at(memory, c as usize),
+        res,
     }
 }
 
-// A group's rows, from the last back to the first, each through its own bytes.
-pub fn put_group(memory: &[u8], op: Op, be: bool, n: u32, a: u32, b: u32, c: u32, part: &mut [u8])
+// A group's rows, from the last back to the first, each through its own bytes; the result of all its elements.
+pub fn put_group(
+    memory: &[u8],
+    op: Op,
+    be: bool,
+    n: u32,
+    a: u32,
+    b: u32,
+    c: u32,
+    part: &mut [u8],
+) -> [u32; 5]
     requires { ⌜ (length (now part) ≡ 120 * n) × (a + 5 * n < 2 ^ 32) × (b + 5 * n < 2 ^ 32) ⌝ }
+    ensures { λ r. ⌜ r ≡ result (wordOf (now (memory .entry))) op be a b 0 n ⌝ }
     ensures { λ _. ⌜ now (part .exit) ≡ rowsOf (λ j. extBytes (groupRow (wordOf (now (memory .entry))) op be n a b c j)) n ⌝ }
 {
+    let res = element_at(memory, c as usize);
     let mut comp = none(op);
     let mut j = n;
     while 0 < j {
         j = j - 1;
-        let more = with_element(memory, op, be, a, b, j, comp);
-        comp = more;
+        let e = with_element(memory, op, be, a, b, j, comp);
+        comp = e.comp;
         let at = 120 * (j as usize);
         let end = at + 120;
-        put_ext(
-            &mut part[at..end],
-            group_row(memory, op, be, n, a, b, c, j, comp),
-        );
+        put_ext(&mut part[at..end], group_row(op, be, n, a, b, c, j, e, res));
     }
+    comp
 }
 
 // start 1, len 1, all indexes and flags 0; comp and res are cells 0 to 4.

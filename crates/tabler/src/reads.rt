@@ -1,27 +1,38 @@
-// Cells, and what an operand reads.
-use form::Mode;
-use form::Operand;
-use word::add;
+// Cells and elements of the memory.
 use word::word_at;
 ghost use mathlib.Core.Path.{_≡_};
-ghost use mathlib.Core.List.{List};
-ghost use Prim.Native.Nat.{ℕ, _<_, _^_};
+ghost use Prim.Native.Nat.{_+_, _≤_, _<_, _^_};
+ghost use lib.ListN.{length};
+ghost use Rattle.word.specs.Bytes.{wordAt};
 ghost use Rattle.rules.specs.Sizes.{wordOf};
 ghost use Rattle.machine.specs.Extension.{elementAt};
-ghost use Rattle.machine.specs.Machine.{value, legal};
-ghost use Rattle.tables.specs.Rows.{column};
-ghost use Rattle.tabled.specs.Tabled.{machineOf};
-ghost use Rattle.tabler.specs.Moves.{at};
+
+fn wide(x: u8) -> u32
+    ensures { λ r. ⌜ (r ≡ x) × (r < 256) ⌝ }
+{
+    x as u32
+}
+
+// A word whose four bytes are there: a cell that exists is read with one test.
+fn word_inside(s: &[u8], at: usize) -> u32
+    requires { ⌜ at + 4 ≤ length (now s) ⌝ }
+    ensures { λ r. ⌜ r ≡ wordAt (now (s .entry)) at ⌝ }
+{
+    wide(s[at]) + 256 * wide(s[at + 1]) + 65536 * wide(s[at + 2]) + 16777216 * wide(s[at + 3])
+}
 
 pub fn cell(memory: &[u8], k: usize) -> u32
     requires { ⌜ k < 2 ^ 40 ⌝ }
     ensures { λ r. ⌜ r ≡ wordOf (now (memory .entry)) k ⌝ }
 {
+    if k < memory.len() / 4 {
+        return word_inside(memory, 4 * k);
+    }
     word_at(memory, 4 * k)
 }
 
-// The element in five cells from k on.
-pub fn element_at(memory: &[u8], k: usize) -> [u32; 5]
+// The element where some of its cells may not exist.
+fn element_near_end(memory: &[u8], k: usize) -> [u32; 5]
     requires { ⌜ k < 2 ^ 39 ⌝ }
     ensures { λ r. ⌜ r ≡ elementAt (wordOf (now (memory .entry))) k ⌝ }
 {
@@ -34,38 +45,19 @@ pub fn element_at(memory: &[u8], k: usize) -> [u32; 5]
     ]
 }
 
-// An operand's value, whatever program it stands in.
-pub fn read(memory: &[u8], fp: u32, o: Operand) -> u32
-    ensures { λ r. ⌜ ((program : List ℕ) (pc : ℕ) → r ≡ value (machineOf program (now (memory .entry))) (at pc fp) o) ⌝ }
+// The element in five cells from k on.
+pub fn element_at(memory: &[u8], k: usize) -> [u32; 5]
+    requires { ⌜ k < 2 ^ 39 ⌝ }
+    ensures { λ r. ⌜ r ≡ elementAt (wordOf (now (memory .entry))) k ⌝ }
 {
-    let mode = o.mode;
-    match mode {
-        Mode::Immediate => o.word,
-        Mode::Cell => cell(memory, add(fp, o.word) as usize),
-        Mode::Frame => add(fp, o.word),
+    if memory.len() / 4 < k + 5 {
+        return element_near_end(memory, k);
     }
-}
-
-// A cell read is legal where the cell exists.
-pub fn is_legal(memory: &[u8], fp: u32, o: Operand) -> bool
-    ensures { λ r. ⌜ ((program : List ℕ) (pc : ℕ) → r ≡ legal (machineOf program (now (memory .entry))) (at pc fp) o) ⌝ }
-{
-    let mode = o.mode;
-    match mode {
-        Mode::Immediate => true,
-        Mode::Cell => (add(fp, o.word) as usize) < memory.len() / 4,
-        Mode::Frame => true,
-    }
-}
-
-// An operand's address column: 0 where it reads no cell.
-pub fn column_of(fp: u32, o: Operand) -> u32
-    ensures { λ r. ⌜ ((pc : ℕ) → r ≡ column (at pc fp) o) ⌝ }
-{
-    let mode = o.mode;
-    match mode {
-        Mode::Immediate => 0,
-        Mode::Cell => add(fp, o.word),
-        Mode::Frame => 0,
-    }
+    [
+        word_inside(memory, 4 * k),
+        word_inside(memory, 4 * (k + 1)),
+        word_inside(memory, 4 * (k + 2)),
+        word_inside(memory, 4 * (k + 3)),
+        word_inside(memory, 4 * (k + 4)),
+    ]
 }

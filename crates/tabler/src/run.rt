@@ -1,11 +1,11 @@
 // The run: H steps, and the rows of each written as it goes.
 use crate::Moved;
 use crate::group::put_padding;
+use crate::look::look_all;
 use crate::step::form_at;
 use crate::step::step_of;
 use crate::write::length_of;
 use crate::write::put_row;
-use crate::write::put_rows;
 use answer::Answer;
 ghost use lib.ListN.{length};
 ghost use Rattle.parts.specs.Parts.{Fitting};
@@ -31,22 +31,20 @@ pub fn run(
     let mut stays = false;
     let mut r = 0;
     while r < height {
+        let row = r as u32;
         let f = form_at(program, pc);
-        match step_of(program, memory, pc, fp, f) {
+        let o = look_all(memory, fp, f);
+        match step_of(program, memory, pc, fp, f, o, filled, ext) {
             Moved::Stuck { rule } => {
-                return Answer::Stuck {
-                    row: r as u32,
-                    rule,
-                };
+                return Answer::Stuck { row, rule };
             }
             Moved::Goes { pc: p, fp: q } => {
                 let kind = f.kind;
                 let n = length_of(kind) as usize;
                 if room <= filled + n {
-                    return Answer::Room { row: r as u32 };
+                    return Answer::Room { row };
                 }
-                put_row(memory, pc, fp, f, r, exec);
-                put_rows(memory, fp, f, filled, ext);
+                put_row(pc, fp, o, r, exec);
                 stays = (p == pc) & (q == fp);
                 pc = p;
                 fp = q;

@@ -1,10 +1,11 @@
 // One step of the machine: where it goes, or the first reason why it is stuck.
 use crate::Moved;
+use crate::Operands;
 use crate::elements::cells_exist;
 use crate::elements::result_holds;
-use crate::reads::cell;
-use crate::reads::is_legal;
-use crate::reads::read;
+use crate::elements::same;
+use crate::group::put_group;
+use crate::reads::element_at;
 use form::Decoded;
 use form::Form;
 use form::Kind;
@@ -21,11 +22,16 @@ ghost use Prim.Native.Nat.{ℕ, _+_, _/_, _*_, _<_, _^_};
 ghost use lib.ListN.{length};
 ghost use Rattle.form.specs.Form.{decodeOf};
 ghost use Rattle.form.specs.Instruction.{instructionAt};
+ghost use Rattle.rules.specs.Sizes.{wordOf};
 ghost use Rattle.machine.specs.Machine.{formIn};
-ghost use Rattle.machine.specs.Step.{asked, forward, targetLegal, jumps, performed, performs, step};
-ghost use Rattle.tables.specs.Rows.{formAt};
+ghost use Rattle.machine.specs.Step.{asked, forward, jumps, performed, performs, step};
+ghost use Rattle.tables.specs.Bytes.{rowsOf};
+ghost use Rattle.tables.specs.Groups.{lengthOf, stepRow};
+ghost use Rattle.tables.specs.Rows.{formAt, columnB};
 ghost use Rattle.tabled.specs.Tabled.{machineOf};
-ghost use Rattle.tabler.specs.Moves.{at, Reads, movedOf};
+ghost use Rattle.tabler.specs.Looked.{operandsOf};
+ghost use Rattle.tabler.specs.Moves.{at, Ready, movedOf};
+ghost use Rattle.tabler.specs.Placed.{extBytes, kindRows, Stepped};
 
 // A malformed instruction is read as the jump that stands for it; no program with one is run.
 pub fn form_at(program: &[u8], pc: u32) -> Form
@@ -70,19 +76,7 @@ fn jump(pc: u32, fp: u32, condition: u32, dest: u32, frame: u32) -> Moved
     forward_if(6, condition == 0, pc, fp)
 }
 
-// DEREF's target exists; no other kind has one.
-fn target_exists(memory: &[u8], kind: Kind, a: u32, b: u32) -> bool
-    ensures { λ r. ⌜ ((program : List ℕ) (pc fp : ℕ) (f : Form) → Reads program (now (memory .entry)) (at pc fp) f a b → r ≡ targetLegal (machineOf program (now (memory .entry))) (at pc fp) f kind) ⌝ }
-{
-    match kind {
-        Kind::Add => true,
-        Kind::Mul => true,
-        Kind::Deref => (add(a, b) as usize) < memory.len() / 4,
-        Kind::Jump => true,
-        Kind::Extension { op: _, be: _, n: _ } => true,
-    }
-}
-
+// The group is written as its result is computed; where it doesn't fit it is computed alone, since STUCK comes before ROOM.
 fn extend(
     memory: &[u8],
     pc: u32,
@@ -93,60 +87,97 @@ fn extend(
     a: u32,
     b: u32,
     c: u32,
+    filled: usize,
+    ext: &mut [u8],
 ) -> Moved
-    requires { ⌜ pc + 1 < 2 ^ 32 ⌝ }
-    ensures { λ r. ⌜ ((program : List ℕ) (f : Form) → r ≡ movedOf (performed (machineOf program (now (memory .entry))) (at pc fp) f (Kind.Extension op be n) a b c)) ⌝ }
+    requires { ⌜ (pc + 1 < 2 ^ 32) × Ready (length (now memory)) filled (length (now ext)) ⌝ }
+    ensures { λ r. ⌜ ((program : List ℕ) (f : Form) → Stepped (performed (machineOf program (now (memory .entry))) (at pc fp) f (Kind.Extension op be n) a b c) filled n (kindRows (wordOf (now (memory .entry))) (Kind.Extension op be n) a b c) (now (ext .entry)) (now (ext .exit)) r) ⌝ }
 {
     if !cells_exist(memory, be, n, a, b, c) {
         return Moved::Stuck { rule: 7 };
     }
-    forward_if(8, result_holds(memory, op, be, n, a, b, c), pc, fp)
+    let from = 120 * filled;
+    let to = from + 120 * (n as usize);
+    if ext.len() < to {
+        return forward_if(8, result_holds(memory, op, be, n, a, b, c), pc, fp);
+    }
+    let all = put_group(memory, op, be, n, a, b, c, &mut ext[from..to]);
+    forward_if(8, same(element_at(memory, c as usize), all), pc, fp)
 }
 
 // What each kind asks of its operands' values.
-fn perform(memory: &[u8], pc: u32, fp: u32, kind: Kind, a: u32, b: u32, c: u32) -> Moved
-    requires { ⌜ pc + 1 < 2 ^ 32 ⌝ }
-    ensures { λ r. ⌜ ((program : List ℕ) (f : Form) → Reads program (now (memory .entry)) (at pc fp) f a b → r ≡ movedOf (performed (machineOf program (now (memory .entry))) (at pc fp) f kind a b c)) ⌝ }
+fn perform(
+    memory: &[u8],
+    pc: u32,
+    fp: u32,
+    kind: Kind,
+    o: Operands,
+    filled: usize,
+    ext: &mut [u8],
+) -> Moved
+    requires { ⌜ (pc + 1 < 2 ^ 32) × Ready (length (now memory)) filled (length (now ext)) ⌝ }
+    ensures { λ r. ⌜ ((program : List ℕ) (f : Form) → o .b .cell ≡ wordOf (now (memory .entry)) (columnB (machineOf program (now (memory .entry))) (at pc fp) f kind) → Stepped (performed (machineOf program (now (memory .entry))) (at pc fp) f kind (o .a .value) (o .b .value) (o .c .value)) filled (lengthOf kind) (kindRows (wordOf (now (memory .entry))) kind (o .a .value) (o .b .value) (o .c .value)) (now (ext .entry)) (now (ext .exit)) r) ⌝ }
 {
+    let a = o.a;
+    let b = o.b;
+    let c = o.c;
+    let x = a.value;
+    let y = b.value;
+    let z = c.value;
     match kind {
-        Kind::Add => forward_if(5, add(a, c) == b, pc, fp),
-        Kind::Mul => forward_if(5, mul(a, c) == b, pc, fp),
-        Kind::Deref => forward_if(5, cell(memory, add(a, b) as usize) == c, pc, fp),
-        Kind::Jump => jump(pc, fp, a, b, c),
-        Kind::Extension { op, be, n } => extend(memory, pc, fp, op, be, n, a, b, c),
+        Kind::Add => forward_if(5, add(x, z) == y, pc, fp),
+        Kind::Mul => forward_if(5, mul(x, z) == y, pc, fp),
+        Kind::Deref => forward_if(5, b.cell == z, pc, fp),
+        Kind::Jump => jump(pc, fp, x, y, z),
+        Kind::Extension { op, be, n } => extend(memory, pc, fp, op, be, n, x, y, z, filled, ext),
     }
 }
 
-// All operands are read before anything is asked of them, on an untaken jump too.
-fn perform_form(memory: &[u8], pc: u32, fp: u32, f: Form) -> Moved
-    requires { ⌜ pc + 1 < 2 ^ 32 ⌝ }
-    ensures { λ r. ⌜ ((program : List ℕ) → r ≡ movedOf (performs (machineOf program (now (memory .entry))) (at pc fp) f)) ⌝ }
+// All operands have to be legal before anything is asked of them, on an untaken jump too.
+fn perform_form(
+    memory: &[u8],
+    pc: u32,
+    fp: u32,
+    f: Form,
+    o: Operands,
+    filled: usize,
+    ext: &mut [u8],
+) -> Moved
+    requires { ⌜ (pc + 1 < 2 ^ 32) × Ready (length (now memory)) filled (length (now ext)) ⌝ }
+    ensures { λ r. ⌜ ((program : List ℕ) → o ≡ operandsOf (machineOf program (now (memory .entry))) (at pc fp) f → Stepped (performs (machineOf program (now (memory .entry))) (at pc fp) f) filled (lengthOf (f .kind)) (kindRows (wordOf (now (memory .entry))) (f .kind) (o .a .value) (o .b .value) (o .c .value)) (now (ext .entry)) (now (ext .exit)) r) ⌝ }
 {
     let kind = f.kind;
-    let a = f.a;
-    let b = f.b;
-    let c = f.c;
-    let x = read(memory, fp, a);
-    let y = read(memory, fp, b);
-    if !is_legal(memory, fp, a) {
+    let a = o.a;
+    let b = o.b;
+    let c = o.c;
+    if !a.legal {
         return Moved::Stuck { rule: 2 };
     }
-    if !(is_legal(memory, fp, b) & target_exists(memory, kind, x, y)) {
+    if !b.legal {
         return Moved::Stuck { rule: 3 };
     }
-    if !is_legal(memory, fp, c) {
+    if !c.legal {
         return Moved::Stuck { rule: 4 };
     }
-    perform(memory, pc, fp, kind, x, y, read(memory, fp, c))
+    perform(memory, pc, fp, kind, o, filled, ext)
 }
 
-// The step of the form that stands at pc.
-pub fn step_of(program: &[u8], memory: &[u8], pc: u32, fp: u32, f: Form) -> Moved
-    requires { ⌜ (length (now program) < 2 ^ 32) × (f ≡ formAt (machineOf (now program) (now memory)) (at pc fp)) ⌝ }
-    ensures { λ r. ⌜ r ≡ movedOf (step (machineOf (now (program .entry)) (now (memory .entry))) (at pc fp)) ⌝ }
+// The step of the form that stands at pc, with its operands; its group is written where it fits.
+pub fn step_of(
+    program: &[u8],
+    memory: &[u8],
+    pc: u32,
+    fp: u32,
+    f: Form,
+    o: Operands,
+    filled: usize,
+    ext: &mut [u8],
+) -> Moved
+    requires { ⌜ (length (now program) < 2 ^ 32) × Ready (length (now memory)) filled (length (now ext)) × (f ≡ formAt (machineOf (now program) (now memory)) (at pc fp)) × (o ≡ operandsOf (machineOf (now program) (now memory)) (at pc fp) f) ⌝ }
+    ensures { λ r. ⌜ Stepped (step (machineOf (now (program .entry)) (now (memory .entry))) (at pc fp)) filled (lengthOf (f .kind)) (rowsOf (λ j. extBytes (stepRow (machineOf (now (program .entry)) (now (memory .entry))) (at pc fp) j)) (lengthOf (f .kind))) (now (ext .entry)) (now (ext .exit)) r ⌝ }
 {
     if program.len() / 48 <= (pc as usize) {
         return Moved::Stuck { rule: 1 };
     }
-    perform_form(memory, pc, fp, f)
+    perform_form(memory, pc, fp, f, o, filled, ext)
 }

@@ -1,21 +1,17 @@
-// The rows of one step, each through its own bytes of the two tables.
-use crate::group::put_group;
-use crate::reads::read;
-use crate::row::row_of;
-use form::Form;
+// The execution row of a step, through its own bytes of the table.
+use crate::Operands;
 use form::Kind;
+use rows::Exec;
 use rows::put_exec;
 ghost use mathlib.Core.Path.{_≡_};
-ghost use mathlib.Core.List.{List};
-ghost use Prim.Native.Nat.{ℕ, _+_, _*_, _≤_};
+ghost use Prim.Native.Nat.{_+_, _*_, _≤_};
 ghost use lib.ListN.{length, replicate};
-ghost use Rattle.rules.specs.Sizes.{wordOf};
+ghost use Rattle.machine.specs.Machine.{Machine};
 ghost use Rattle.tables.specs.Rows.{execRowOf, formAt};
-ghost use Rattle.tables.specs.Groups.{lengthOf, stepRow};
-ghost use Rattle.tables.specs.Bytes.{rowsOf};
-ghost use Rattle.tabled.specs.Tabled.{machineOf};
-ghost use Rattle.tabler.specs.Moves.{at, valueIn, Indexed};
-ghost use Rattle.tabler.specs.Placed.{kindRow, execBytes, extBytes, placed};
+ghost use Rattle.tables.specs.Groups.{lengthOf};
+ghost use Rattle.tabler.specs.Looked.{operandsOf};
+ghost use Rattle.tabler.specs.Moves.{at};
+ghost use Rattle.tabler.specs.Placed.{execBytes, placed};
 
 // How many extension rows a step of a kind fills.
 pub fn length_of(kind: Kind) -> u32
@@ -30,46 +26,34 @@ pub fn length_of(kind: Kind) -> u32
     }
 }
 
-// The extension rows of a step of a kind on three values; only an extension step has any.
-fn put_kind(memory: &[u8], kind: Kind, a: u32, b: u32, c: u32, part: &mut [u8])
-    requires { ⌜ (length (now part) ≡ 120 * lengthOf kind) × Indexed kind a b ⌝ }
-    ensures { λ _. ⌜ now (part .exit) ≡ rowsOf (λ j. extBytes (kindRow (wordOf (now (memory .entry))) kind a b c j)) (lengthOf kind) ⌝ }
+// The execution row of a state whose operands were looked at.
+fn row_of(pc: u32, fp: u32, o: Operands) -> Exec
+    ensures { λ r. ⌜ ((m : Machine) → o ≡ operandsOf m (at pc fp) (formAt m (at pc fp)) → r ≡ execRowOf m (at pc fp)) ⌝ }
 {
-    match kind {
-        Kind::Add => {}
-        Kind::Mul => {}
-        Kind::Deref => {}
-        Kind::Jump => {}
-        Kind::Extension { op, be, n } => put_group(memory, op, be, n, a, b, c, part),
+    let a = o.a;
+    let b = o.b;
+    let c = o.c;
+    Exec {
+        pc,
+        fp,
+        addrA: a.addr,
+        addrB: b.addr,
+        addrC: c.addr,
+        valueA: a.cell,
+        valueB: b.cell,
+        valueC: c.cell,
     }
 }
 
-// The execution row of the form that stands at pc, through the 32 bytes of row r.
-pub fn put_row(memory: &[u8], pc: u32, fp: u32, f: Form, r: usize, exec: &mut [u8])
+// That row, through the 32 bytes of row r.
+pub fn put_row(pc: u32, fp: u32, o: Operands, r: usize, exec: &mut [u8])
     requires { ⌜ 32 * r + 32 ≤ length (now exec) ⌝ }
-    ensures { λ _. ⌜ ((program : List ℕ) → f ≡ formAt (machineOf program (now (memory .entry))) (at pc fp) → now (exec .exit) ≡ placed (now (exec .entry)) (32 * r) (32 * r + 32) (execBytes (execRowOf (machineOf program (now (memory .entry))) (at pc fp)))) ⌝ }
+    ensures { λ _. ⌜ ((m : Machine) → o ≡ operandsOf m (at pc fp) (formAt m (at pc fp)) → now (exec .exit) ≡ placed (now (exec .entry)) (32 * r) (32 * r + 32) (execBytes (execRowOf m (at pc fp)))) ⌝ }
 {
-    let row = row_of(memory, pc, fp, f);
+    let row = row_of(pc, fp, o);
     let at = 32 * r;
     let end = at + 32;
     put_exec(&mut exec[at..end], row);
-}
-
-// Its group, through the bytes of the rows after those filled.
-pub fn put_rows(memory: &[u8], fp: u32, f: Form, filled: usize, ext: &mut [u8])
-    requires { ⌜ (120 * filled + 120 * lengthOf (f .kind) ≤ length (now ext)) × Indexed (f .kind) (valueIn (now memory) fp (f .a)) (valueIn (now memory) fp (f .b)) ⌝ }
-    ensures { λ _. ⌜ ((program : List ℕ) (pc : ℕ) → f ≡ formAt (machineOf program (now (memory .entry))) (at pc fp) → now (ext .exit) ≡ placed (now (ext .entry)) (120 * filled) (120 * filled + 120 * lengthOf (f .kind)) (rowsOf (λ j. extBytes (stepRow (machineOf program (now (memory .entry))) (at pc fp) j)) (lengthOf (f .kind)))) ⌝ }
-{
-    let kind = f.kind;
-    let a = f.a;
-    let b = f.b;
-    let c = f.c;
-    let x = read(memory, fp, a);
-    let y = read(memory, fp, b);
-    let z = read(memory, fp, c);
-    let from = 120 * filled;
-    let to = from + 120 * (length_of(kind) as usize);
-    put_kind(memory, kind, x, y, z, &mut ext[from..to]);
 }
 
 // Every byte 0.

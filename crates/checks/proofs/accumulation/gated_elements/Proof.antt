@@ -1,37 +1,33 @@
--- Coordinate by coordinate.
+-- A flag of 0 and equal elements leave 0.
 use borrow.Author.Needs.{needs}
-use Rattle.word.specs.Element.{_-ₑ_, _·ₑ_}
+use Rattle.word.proofs.ElementLaws.{scale-zero}
+use Rattle.checks.proofs.QuickExt.{same-elements}
 use Rattle.checks.proofs.accumulation.gated_elements.Statement.{statement}
 use Rattle.checks.proofs.accumulation.gated_elements.Tie as tie
 
 returns : tie.Need-returns
-unfolding _-ₑ_ _·ₑ_
-returns c =
-    rw (
-      c .gated5 .ensures,
-      c .before .gated4 .ensures,
-      c .before .before .gated3 .ensures,
-      c .before .before .before .gated2 .ensures,
-      c .before .before .before .before .gated .ensures,
-    )
+returns c = rw (c .if1 .taken, scale-zero)
+
+returns-2 : tie.Need-returns-2
+returns-2 c =
+    let args = c .before .before .args in
+    same-elements (args .flag) (args .t2) (args .t3) (c .if2 .taken)
 
 pub gated-elements-spec : {M : Type 1} → statement M
 gated-elements-spec =
     tie.close
     (tie.spec
+    returns
     (λ c. search needs)
     (λ c. search needs)
+    (λ c. search needs)
+    (λ c. search needs)
+    (λ c. search needs)
+    (λ c. search needs)
+    (λ c. search needs)
+    (λ c. search needs)
+    (λ c. search needs)
+    (λ c. search needs)
+    returns-2
     (λ c κs. search needs)
-    (λ c. search needs)
-    (λ c. search needs)
-    (λ c κs. search needs)
-    (λ c. search needs)
-    (λ c. search needs)
-    (λ c κs. search needs)
-    (λ c. search needs)
-    (λ c. search needs)
-    (λ c κs. search needs)
-    (λ c. search needs)
-    (λ c. search needs)
-    (λ c κs. search needs)
-    returns)
+    (λ c. search needs))

@@ -5,9 +5,8 @@ use Rattle.checks.proofs.accumulation.operates.Tie as tie
 
 returns : tie.Need-returns
 returns c =
-    let selected-element = c .before .before .before .before .before .before .before .before .selected-element in
-    let sub = c .before .before .before .before .before .before .before .sub in
-    let scale = c .before .before .before .before .before .before .scale in
+    let selected-element = c .before .before .before .before .before .before .before .selected-element in
+    let tail-of = c .before .before .before .before .before .before .tail-of in
     let sums-hold = c .before .before .before .before .before .sums-hold in
     let products-hold = c .before .before .before .before .products-hold in
     let peqs-hold = c .before .before .before .peqs-hold in
@@ -20,8 +19,7 @@ returns c =
       peqs-hold .ensures,
       products-hold .ensures,
       sums-hold .ensures,
-      scale .ensures,
-      sub .ensures,
+      tail-of .ensures,
       selected-element .ensures,
     )
 
@@ -29,7 +27,6 @@ pub operates-spec : {M : Type 1} → statement M
 operates-spec =
     tie.close
     (tie.spec
-    (λ c κs. search needs)
     (λ c κs. search needs)
     (λ c κs. search needs)
     (λ c κs. search needs)

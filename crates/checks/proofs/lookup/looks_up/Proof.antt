@@ -1,10 +1,20 @@
--- The word read is the cell's.
+-- An address past the end is no cell; else the word read is the cell's.
 use borrow.Author.Needs.{needs}
+use borrow.Author.Tests.{le-ltb, lt-ltb}
 use Rattle.checks.proofs.lookup.looks_up.Statement.{statement}
 use Rattle.checks.proofs.lookup.looks_up.Tie as tie
 
 returns : tie.Need-returns
-returns c = cc
+returns c = rw (le-ltb _ _ (c .if1 .taken))
+
+returns-2 : tie.Need-returns-2
+returns-2 c = rw (lt-ltb _ _ (c .before .if1 .left), c .word-inside .ensures)
 
 pub looks-up-spec : {M : Type 1} → statement M
-looks-up-spec = tie.close (tie.spec (λ c. search needs) (λ c κs. search needs) returns)
+looks-up-spec =
+    tie.close
+    (tie.spec
+    returns
+    (λ c. search needs)
+    (λ c κs. search needs)
+    returns-2)

@@ -1,32 +1,49 @@
--- Five lookups, each as `looks_up` promises.
+-- The last address past the end is no cell; else the words read are the five cells'.
 use borrow.Author.Needs.{needs}
+use borrow.Author.Tests.{le-ltb}
+use Rattle.checks.proofs.Quick.{and-false, five-cells}
 use Rattle.checks.proofs.lookup.looks_up_five.Statement.{statement}
 use Rattle.checks.proofs.lookup.looks_up_five.Tie as tie
 
 returns : tie.Need-returns
-returns c =
-    let looks-up = c .before .before .before .before .looks-up in
-    let looks-up2 = c .before .before .before .looks-up2 in
-    let looks-up3 = c .before .before .looks-up3 in
-    let looks-up4 = c .before .looks-up4 in
-    rw (looks-up .ensures, looks-up2 .ensures, looks-up3 .ensures, looks-up4 .ensures, c .looks-up5 .ensures)
+returns c = simp (le-ltb _ _ (c .if1 .taken), and-false)
+
+returns-2 : tie.Need-returns-2
+returns-2 c =
+    let else1 = c .before .before .before .before .before in
+    let args = else1 .before .before .args in
+    rw (
+      c .word-inside5 .ensures,
+      c .before .word-inside4 .ensures,
+      c .before .before .word-inside3 .ensures,
+      c .before .before .before .word-inside2 .ensures,
+      c .before .before .before .before .word-inside .ensures,
+    )
+    (five-cells (args .memory .now) (args .addr) (args .t3) (else1 .if1 .left))
 
 pub looks-up-five-spec : {M : Type 1} → statement M
 looks-up-five-spec =
     tie.close
     (tie.spec
     (λ c. search needs)
-    (λ c κs. search needs)
+    returns
     (λ c. search needs)
     (λ c. search needs)
     (λ c κs. search needs)
     (λ c. search needs)
     (λ c. search needs)
-    (λ c κs. search needs)
-    (λ c. search needs)
     (λ c. search needs)
     (λ c κs. search needs)
     (λ c. search needs)
     (λ c. search needs)
+    (λ c. search needs)
     (λ c κs. search needs)
-    returns)
+    (λ c. search needs)
+    (λ c. search needs)
+    (λ c. search needs)
+    (λ c κs. search needs)
+    (λ c. search needs)
+    (λ c. search needs)
+    (λ c. search needs)
+    (λ c κs. search needs)
+    returns-2)

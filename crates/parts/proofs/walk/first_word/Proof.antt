@@ -6,7 +6,7 @@ use Prim.Native.Nat.{_-_, _/_}
 use native.Mathlib.Omega.{arith}
 use lib.ListN.{length}
 use Rattle.judged.specs.Judged.{isWord, firstWord}
-use Rattle.parts.proofs.Walks.{Walk, begins, goes-past, finds, finds-none}
+use Rattle.parts.proofs.Walks.{Walk, goes-past, finds, finds-none}
 use Rattle.parts.proofs.walk.first_word.Statement.{statement}
 use Rattle.parts.proofs.walk.first_word.Tie as tie
 
@@ -17,7 +17,7 @@ abbrev μ-loop : tie.MeasureT-loop
 μ-loop bytes n i₀ i = n - i
 
 loop-holds : tie.Need-loop-holds Inv-loop μ-loop
-loop-holds c = (refl, begins _ _)
+loop-holds c = (refl, record { within = c .first-eight .ensures .0; left = c .first-eight .ensures .1 })
 
 returns : tie.Need-returns Inv-loop μ-loop
 returns c =
@@ -38,6 +38,7 @@ first-word-spec =
     (tie.spec
     Inv-loop
     μ-loop
+    (λ c κs. search needs)
     loop-holds
     (λ c. search needs)
     (λ c κs. search needs)

@@ -1,11 +1,12 @@
 -- At j the rest is the result of the elements from j on; each turn joins one element more in front.
 use borrow.Author.Needs.{needs}
-use mathlib.Core.Path.{_≡_}
+use mathlib.Core.Path.{_≡_, ap}
 use Prim.Native.Nat.{_-_, _≤_}
 use native.Mathlib.Nat.{sub-zero}
 use native.Mathlib.Omega.{arith}
 use Rattle.rules.specs.Sizes.{wordOf}
 use Rattle.machine.specs.Extension.{result}
+use Rattle.tabler.specs.declared.Joined.{Joined}
 use Rattle.tabler.proofs.Results.{none-left, one-more}
 use Rattle.tabler.proofs.elements.result_of.Statement.{statement}
 use Rattle.tabler.proofs.elements.result_of.Tie as tie
@@ -23,9 +24,9 @@ loop-holds c =
 
 loop-again : tie.Need-loop-again Inv-loop μ-loop
 loop-again c =
-    let l = c .before .before .loop in
-    let s = c .before .before .before .before .before .args in
-    (omega arith, one-more (wordOf (s .memory .now)) (s .op) (s .be) (s .a) (s .b) (s .n) (l .j) (omega arith) (omega arith) (l .inv .1) (c .with-element .ensures))
+    let l = c .before .before .before .loop in
+    let s = c .before .before .before .before .before .before .args in
+    (omega arith, one-more (wordOf (s .memory .now)) (s .op) (s .be) (s .a) (s .b) (s .n) (l .j) (omega arith) (omega arith) (l .inv .1) (ap (λ (e : Joined). e .comp) (c .before .with-element .ensures)))
 
 returns : tie.Need-returns Inv-loop μ-loop
 returns c =

@@ -1,11 +1,9 @@
 -- Each field is what its call promises.
 use borrow.Author.Needs.{needs}
-use Rattle.tables.specs.Groups.{groupRow}
 use Rattle.tabler.proofs.group.group_row.Statement.{statement}
 use Rattle.tabler.proofs.group.group_row.Tie as tie
 
 returns : tie.Need-returns
-unfolding groupRow
 returns c = cc
 
 pub group-row-spec : {M : Type 1} → statement M
@@ -13,19 +11,13 @@ group-row-spec =
     tie.close
     (tie.spec
     (λ c κs. search needs)
-    (λ c. search needs)
-    (λ c. search needs)
     (λ c κs. search needs)
     (λ c κs. search needs)
     (λ c κs. search needs)
     (λ c κs. search needs)
     (λ c. search needs)
-    (λ c κs. search needs)
+    (λ c. search needs)
     (λ c. search needs)
     (λ c κs. search needs)
     (λ c. search needs)
-    (λ c κs. search needs)
-    (λ c. search needs)
-    (λ c κs. search needs)
-    (λ c κs. search needs)
     returns)

@@ -3,6 +3,7 @@ use borrow.Author.Needs.{needs}
 use mathlib.Core.List.{List, _++_}
 use mathlib.Core.Path.{_≡_, refl, sym, ap, _∙_}
 use Prim.Native.Nat.{ℕ, _-_, _*_, _≤_}
+use native.Mathlib.Nat.{sub-zero}
 use native.Mathlib.Omega.{arith}
 use lib.ListN.{length, drop}
 use Rattle.rows.specs.Rows.{extWords}
@@ -10,14 +11,15 @@ use Rattle.rules.specs.Sizes.{wordOf}
 use Rattle.machine.specs.Extension.{result}
 use Rattle.tables.specs.Bytes.{rowsOf}
 use Rattle.tables.specs.Groups.{groupRow}
+use Rattle.tabler.specs.declared.Joined.{Joined}
 use Rattle.tabler.specs.Placed.{extBytes}
 use Rattle.tabler.proofs.Lent.{none-back, one-back, all-back, back-length}
-use Rattle.tabler.proofs.Results.{none-left, one-more}
+use Rattle.tabler.proofs.Results.{none-left, one-more, made-row}
 use Rattle.tabler.proofs.group.put_group.Statement.{statement}
 use Rattle.tabler.proofs.group.put_group.Tie as tie
 
 abbrev Inv-loop : tie.InvT-loop
-Inv-loop memory op be n a b c part₀ comp₀ j₀ part comp j =
+Inv-loop memory op be n a b c part₀ res comp₀ j₀ part comp j =
     (length part ≡ 120 * n)
     × (j ≤ n)
     × (comp ≡ result (wordOf memory) op be a b j (n - j))
@@ -25,43 +27,39 @@ Inv-loop memory op be n a b c part₀ comp₀ j₀ part comp j =
     ≡ rowsOf (λ k. extBytes (groupRow (wordOf memory) op be n a b c k)) n)
 
 abbrev μ-loop : tie.MeasureT-loop
-μ-loop memory op be n a b c part₀ comp₀ j₀ part comp j = j
+μ-loop memory op be n a b c part₀ res comp₀ j₀ part comp j = j
 
 loop-holds : tie.Need-loop-holds Inv-loop μ-loop
 loop-holds c =
-    let s = c .before .before .before .args in
-    let pre = c .before .before .before .pre in
+    let s = c .before .before .before .before .args in
+    let pre = c .before .before .before .before .pre in
     (pre .0, omega arith, none-left (wordOf (s .memory .now)) (s .op) (s .be) (s .a) (s .b) (s .n) (c .none .ensures), none-back _ 120 _ _ (pre .0))
-
-group-row-requires : tie.Need-group-row-requires Inv-loop μ-loop
-group-row-requires c κs =
-    let l = c .before .before .before .loop in
-    let s = c .before .before .before .before .before .before .before .args in (
-      omega arith,
-      omega arith,
-      omega arith,
-      one-more (wordOf (s .memory .now)) (s .op) (s .be) (s .a) (s .b) (s .n) (l .j) (omega arith) (omega arith) (l .inv .2) (c .before .with-element .ensures),
-    )
 
 loop-again : tie.Need-loop-again Inv-loop μ-loop
 loop-again c =
-    let l = c .before .before .before .before .before .before .before .loop in
-    let s = c .before .before .before .before .before .before .before .before .before .before .before .args in
+    let w = c .before .before .before .before .before .before in
+    let l = w .before .before .loop in
+    let s = w .before .before .before .before .before .before .before .args in
     let cell = wordOf (s .memory .now) in
     let row : ℕ → List ℕ = λ k. extBytes (groupRow cell (s .op) (s .be) (s .n) (s .a) (s .b) (s .c) k) in
     let made = c .before .before .before .group-row in
-    let x = c .before .before .put-ext in (
+    let x = c .before .before .put-ext in
+    let more = one-more cell (s .op) (s .be) (s .a) (s .b) (s .n) (l .j) (omega arith) (omega arith) (l .inv .2) (ap (λ (e : Joined). e .comp) (w .with-element .ensures)) in
+    let same = made .ensures ∙ made-row cell (s .op) (s .be) (s .a) (s .b) (s .n) (s .c) (l .j - 1) (l .comp) (w .with-element .ensures) more (w .before .before .before .before .element-at .ensures) in (
       back-length row 120 (l .part) (s .n) (l .j) (omega arith) (omega arith) (x .last .0) (extWords (made .result)) (x .ensures) refl ∙ l .inv .0,
       omega arith,
-      one-more cell (s .op) (s .be) (s .a) (s .b) (s .n) (l .j) (omega arith) (omega arith) (l .inv .2) (c .before .before .before .before .before .with-element .ensures),
-      one-back row 120 (l .part) (s .n) (l .j) (omega arith) (omega arith) (x .last .0) (extWords (made .result)) (x .ensures) refl (ap extBytes (made .ensures)) (l .inv .3),
+      more,
+      one-back row 120 (l .part) (s .n) (l .j) (omega arith) (omega arith) (x .last .0) (extWords (made .result)) (x .ensures) refl (ap extBytes same) (l .inv .3),
     )
 
 same-length : tie.Need-same-length Inv-loop μ-loop
-same-length c = c .before .loop .inv .0 ∙ sym (c .before .before .before .before .before .pre .0)
+same-length c = c .before .loop .inv .0 ∙ sym (c .before .before .before .before .before .before .pre .0)
 
 returns : tie.Need-returns Inv-loop μ-loop
-returns c = let l = c .before .loop in all-back _ 120 (l .part) _ (l .j) (omega arith) (l .inv .3)
+returns c =
+    let l = c .before .loop in
+    let none : l .j ≡ 0 = omega arith in
+    (rw (none, sub-zero _) at (l .inv .2), all-back _ 120 (l .part) _ (l .j) (omega arith) (l .inv .3))
 
 pub put-group-spec : {M : Type 1} → statement M
 put-group-spec =
@@ -69,6 +67,7 @@ put-group-spec =
     (tie.spec
     Inv-loop
     μ-loop
+    (λ c κs. search needs)
     (λ c κs. search needs)
     loop-holds
     (λ c. search needs)
@@ -79,7 +78,7 @@ put-group-spec =
     (λ c. search needs)
     (λ c. search needs)
     (λ c. search needs)
-    group-row-requires
+    (λ c κs. search needs)
     (λ c κs. search needs)
     (λ c. search needs)
     loop-again

@@ -9,8 +9,9 @@ use Rattle.form.specs.declared.Form.{Form}
 use Rattle.machine.specs.Step.{step, goes}
 use Rattle.tables.specs.Groups.{lengthOf}
 use Rattle.tabled.specs.Tabled.{machineOf}
+use Rattle.tabler.specs.Looked.{operandsOf}
 use Rattle.tabler.specs.Moves.{at}
-use Rattle.tabler.proofs.Going.{went, held-up, indexed}
+use Rattle.tabler.proofs.Going.{went, held-up}
 use Rattle.tabler.proofs.Lent.{rest-length}
 use Rattle.tabler.proofs.Running.{Ran, begins, is-stuck, no-room, turns, stands, all-exec, all-ext, refused, stuck-no, room-no, open-no}
 use Rattle.tabler.proofs.run.run.Statement.{statement}
@@ -28,70 +29,89 @@ abbrev μ-loop : tie.MeasureT-loop
 
 -- at a place where the step's answer is taken apart, the step goes on
 goes-here : (c : tie.After-p Inv-loop μ-loop)
-    → let l = c .before .before .before .before .before .loop in
-    let s = c .before .before .before .before .before .before .before .before .before .before .args in
+    → let q = c .before .before .before .before in
+    let l = q .before .before .before .before .before .loop in
+    let s = q .before .before .before .before .before .before .before .before .before .before .args in
     step (machineOf (s .program .now) (s .memory .now)) (at (l .pc) (l .fp)) ≡ goes (at (c .p .given .0 .0) (c .p .given .0 .1 .0))
-goes-here c = went _ (sym (c .p .given .1) ∙ c .before .before .step-of .ensures)
+goes-here c = went _ (sym (c .p .given .1) ∙ c .before .before .before .before .step-of .ensures .moved)
 
 loop-holds : tie.Need-loop-holds Inv-loop μ-loop
 loop-holds c = (refl, refl, begins (omega (arith, c .before .before .before .before .pre)))
 
 step-of-requires : tie.Need-step-of-requires Inv-loop μ-loop
-step-of-requires c κs = (omega (arith, c .before .before .before .before .before .before .before .pre), c .form-at .ensures)
+step-of-requires c κs =
+    let l = c .before .before .before .before .loop in
+    let s = c .before .before .before .before .before .before .before .before .before in (
+      omega (arith, s .pre),
+      record {
+        memory-short = s .pre .memory-short;
+        ext-short = omega (arith, l .inv .1, s .pre .ext-short);
+        filled-in = omega (arith, l .inv .1, l .inv .2 .fits);
+      },
+      c .before .before .form-at .ensures,
+      c .before .look-all .ensures (s .args .program .now) (l .pc),
+    )
 
 returns : tie.Need-returns Inv-loop μ-loop
 returns c =
-    let o = c .before .before .before in
-    let l = o .before .before .before .loop in
+    let q = c .before .before .before .before .before in
+    let l = q .before .before .before .before .before .loop in
     refused stuck-no
-    (is-stuck (l .inv .2) (o .before .before .loop-test .taken)
-    (held-up _ (sym (c .before .rule .given .1) ∙ o .step-of .ensures)))
+    (is-stuck (l .inv .2) (q .before .before .before .before .loop-test .taken)
+    (held-up _ (sym (c .before .rule .given .1) ∙ q .step-of .ensures .moved)))
+
+add-if1 : tie.Need-add-if1 Inv-loop μ-loop
+add-if1 c =
+    let l = c .before .before .before .before .before .before .before .before .before .before .before .loop in
+    let s = c .before .before .before .before .before .before .before .before .before .before .before .before .before .before .before .before in
+    omega (arith, l .inv .2 .fits, s .pre .ext-short)
 
 returns-2 : tie.Need-returns-2 Inv-loop μ-loop
 returns-2 c =
     let p = c .before .before .before in
-    let l = p .before .before .before .before .before .loop in
-    let f = p .before .before .before .form-at in
-    let n = c .before .length-of in
-    let len = n .ensures ∙ ap (λ (f : Form). lengthOf (f .kind)) (f .ensures) in
+    let q = p .before .before .before .before in
+    let l = q .before .before .before .before .before .loop in
+    let f = q .before .before .before .form-at in
+    let len = c .before .length-of .ensures ∙ ap (λ (f : Form). lengthOf (f .kind)) (f .ensures) in
     refused room-no
-    (no-room (l .inv .2) (p .before .before .before .before .loop-test .taken) (goes-here p)
+    (no-room (l .inv .2) (q .before .before .before .before .loop-test .taken) (goes-here p)
     (rw len at (c .if1 .taken)))
 
-put-rows-requires : tie.Need-put-rows-requires Inv-loop μ-loop
-put-rows-requires c κs =
-    let e = c .before .before .before .before .before in
-    let p = e .before .before .before in
-    let l = p .before .before .before .before .before .loop in
-    let s = p .before .before .before .before .before .before .before .before .before .before in (
-      omega (arith, e .if1 .left, e .before .length-of .ensures, l .inv .1),
-      indexed (s .args .program .now) (s .args .memory .now) (l .pc) (l .fp) (p .before .before .before .form-at .result) _ (s .pre .memory-short) (p .before .before .before .form-at .ensures) (goes-here p),
-    )
+put-row-requires : tie.Need-put-row-requires Inv-loop μ-loop
+put-row-requires c κs = omega (arith, c .before .before .before .before .before .before .before .before .before .before .before .before .loop-test .taken, c .before .before .before .before .before .before .before .before .before .before .before .before .before .loop .inv .0)
 
 add-filled : tie.Need-add-filled Inv-loop μ-loop
 add-filled c =
-    let e = c .before .before .before .before .before .before .before .before in
-    let p = e .before .before .before in
-    omega (arith, e .if1 .left, p .before .before .before .before .before .before .before .before .before .before .good)
+    let e = c .before .before .before .before in
+    omega (arith, e .if1 .left, e .before .before .before .before .before .before .before .before .before .before .before .before .before .before .before .before .before .good)
+
+add-r : tie.Need-add-r Inv-loop μ-loop
+add-r c = omega (arith, c .before .before .before .before .before .before .before .before .before .before .before .before .before .before .before .loop-test .taken, c .before .before .before .before .before .before .before .before .before .before .before .before .before .before .before .before .before .before .before .before .before .pre .exec-short)
+
+loop-less : tie.Need-loop-less Inv-loop μ-loop
+loop-less c = omega (arith, c .before .before .before .before .before .before .before .before .before .before .before .before .before .before .before .loop-test .taken)
 
 loop-again : tie.Need-loop-again Inv-loop μ-loop
 loop-again c =
-    let e = c .before .before .before .before .before .before .before .before in
+    let e = c .before .before .before .before in
     let p = e .before .before .before in
-    let l = p .before .before .before .before .before .loop in
-    let s = p .before .before .before .before .before .before .before .before .before .before in
-    let f = p .before .before .before .form-at in
+    let q = p .before .before .before .before in
+    let l = q .before .before .before .before .before .loop in
+    let s = q .before .before .before .before .before .before .before .before .before .before .args in
+    let m = machineOf (s .program .now) (s .memory .now) in
+    let f = q .before .before .before .form-at in
     let n = e .before .length-of in
-    let x = c .before .before .before .before .before .before .put-row in
-    let y = c .before .before .put-rows in (
-      x .kept .1 .1 .1 .1 .1 .0 ∙ l .inv .0,
-      y .kept .1 .1 .1 .1 .0 ∙ l .inv .1,
-      turns (l .inv .2) (p .before .before .before .before .loop-test .taken) (goes-here p)
+    let x = c .before .before .put-row in
+    let more = q .before .before .before .before .loop-test .taken in
+    let looked = q .before .before .look-all .ensures (s .program .now) (l .pc) in (
+      x .kept .1 .1 .1 .1 .0 ∙ l .inv .0,
+      q .step-of .kept .1 .1 .1 .1 .1 .1 .1 .0 ∙ l .inv .1,
+      turns (l .inv .2) more (goes-here p)
           (f .ensures) (n .ensures) (e .if1 .left)
-          (omega (arith, p .before .before .before .before .loop-test .taken, l .inv .0))
+          (omega (arith, more, l .inv .0))
           (omega (arith, e .if1 .left, l .inv .1))
-          (x .ensures (s .args .program .now) (f .ensures))
-          (y .ensures (s .args .program .now) (l .pc) (f .ensures)),
+          (x .ensures m (looked ∙ ap (operandsOf m (at (l .pc) (l .fp))) (f .ensures)))
+          (q .step-of .ensures .written (goes-here p) (omega (arith, e .if1 .left, n .ensures, l .inv .1))),
     )
 
 returns-3 : tie.Need-returns-3 Inv-loop μ-loop
@@ -130,9 +150,10 @@ run-spec =
     Inv-loop
     μ-loop
     loop-holds
+    (λ c. search needs)
+    (λ c κs. search needs)
     (λ c κs. search needs)
     step-of-requires
-    (λ c. search needs)
     (λ c. search needs)
     (λ c. search needs)
     (λ c. search needs)
@@ -140,16 +161,14 @@ run-spec =
     (λ c. search needs)
     (λ c κs. search needs)
     (λ c. search needs)
-    (λ c. search needs)
-    (λ c. search needs)
+    add-if1
     (λ c. search needs)
     (λ c. search needs)
     returns-2
-    (λ c κs. search needs)
-    put-rows-requires
+    put-row-requires
     add-filled
-    (λ c. search needs)
-    (λ c. search needs)
+    add-r
+    loop-less
     loop-again
     (λ c. search needs)
     (λ c. search needs)

@@ -10,14 +10,14 @@ use Rattle.tabler.proofs.write.put_row.Statement.{statement}
 use Rattle.tabler.proofs.write.put_row.Tie as tie
 
 returns : tie.Need-returns
-returns c program e =
-    let s = c .before .before .before .before .before .before .before in
+returns c m e =
+    let s = c .before .before .before .before .before .before in
     let exec = s .args .exec .now in
     let at = 32 * s .args .r in
     let row = c .before .before .before .before .row-of in
     let x = c .before .before .put-exec in
     ap (λ (l : List ℕ). placed exec at (at + 32) l)
-    (put-bytes exec (x .last .0) (execWords (row .result)) at 32 (s .pre) (x .ensures) ∙ ap execBytes (row .ensures program e))
+    (put-bytes exec (x .last .0) (execWords (row .result)) at 32 (s .pre) (x .ensures) ∙ ap execBytes (row .ensures m e))
 
 pub put-row-spec : {M : Type 1} → statement M
 put-row-spec =

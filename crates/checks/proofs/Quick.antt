@@ -1,0 +1,68 @@
+-- What plain comparisons say of a rule: a gate that is 0 or two words that are equal leave 0, and a rule that holds is passed.
+-- Assumes nothing.
+use borrow.Author.Tests.{eq-eqb, eqb-true, leb-true, lt-ltb}
+use mathlib.Core.Path.{_≡_, refl}
+use mathlib.Core.Bool.{Bool, true, false, _&&_, _||_, true≢false, false≢true}
+use mathlib.Core.List.{List, [], _∷_}
+use Prim.Native.Nat.{ℕ, zero, suc, _+_, _*_, _/_, _<_}
+use native.Mathlib.Omega.{arith}
+use lib.Dec.{eqb, leb, ltb}
+use lib.ListN.{length}
+use Rattle.word.specs.Word.{_-ₚ_, _*ₚ_}
+use Rattle.word.specs.Bytes.{wordAt}
+use Rattle.word.specs.Element.{_⟨_⟩}
+use Rattle.word.proofs.WordLaws.{product-zero, difference-self}
+use Rattle.rules.specs.Given.{zero?, either}
+use Rattle.checks.specs.Memory.{cellsAre}
+use Rattle.checks.proofs.Shut.{shut}
+
+-- a rule that holds leaves what comes after it
+pub pass : {b : Bool} {x y : ℕ} (n : ℕ) → b ≡ true → x ≡ y → either b x n ≡ y
+pass n e s = rw e s
+
+-- a test that failed shows nothing
+pub never : {A : Type 0} → false ≡ true → A
+never e = absurd (false≢true e)
+
+pub shut-rule : (gate x : ℕ) → gate ≡ 0 → zero? (gate *ₚ x) ≡ true
+shut-rule gate x e = eq-eqb (gate *ₚ x) 0 (rw (e, shut))
+
+pub same-rule : (gate x y : ℕ) → x ≡ y → zero? (gate *ₚ (x -ₚ y)) ≡ true
+same-rule gate x y e = eq-eqb (gate *ₚ (x -ₚ y)) 0 (rw (e, difference-self, product-zero))
+
+-- the same by the test
+pub same-test : (gate x y : ℕ) → eqb x y ≡ true → zero? (gate *ₚ (x -ₚ y)) ≡ true
+same-test gate x y t = same-rule gate x y (eqb-true x y t)
+
+pub bit-rule : (x : ℕ) → leb x 1 ≡ true → zero? (x *ₚ (1 -ₚ x)) ≡ true
+unfolding _-ₚ_ _*ₚ_
+bit-rule zero e = refl
+bit-rule (suc zero) e = refl
+bit-rule (suc (suc x)) e = absurd (omega (arith, leb-true (suc (suc x)) 1 e))
+
+pub and-false : (t : Bool) → (t && false) ≡ false
+and-false true = refl
+and-false false = refl
+
+-- five cells that are all there
+pub five-cells : (memory : List ℕ) (addr : ℕ) (a : List ℕ) → addr + 4 < length memory / 4
+    → (eqb (a ⟨ 0 ⟩) (wordAt memory (4 * addr))
+    && eqb (a ⟨ 1 ⟩) (wordAt memory (4 * (addr + 1)))
+    && eqb (a ⟨ 2 ⟩) (wordAt memory (4 * (addr + 2)))
+    && eqb (a ⟨ 3 ⟩) (wordAt memory (4 * (addr + 3)))
+    && eqb (a ⟨ 4 ⟩) (wordAt memory (4 * (addr + 4))))
+    ≡ cellsAre memory addr a
+five-cells memory addr a h =
+    rw (
+      lt-ltb addr (length memory / 4) (omega arith),
+      lt-ltb (addr + 1) (length memory / 4) (omega arith),
+      lt-ltb (addr + 2) (length memory / 4) (omega arith),
+      lt-ltb (addr + 3) (length memory / 4) (omega arith),
+      lt-ltb (addr + 4) (length memory / 4) h,
+    )
+
+pub none-of-three : (t u v : Bool) → (t || u || v) ≡ false → (t ≡ false) × (u ≡ false) × (v ≡ false)
+none-of-three false false false e = (refl, refl, refl)
+none-of-three true u v e = absurd (true≢false e)
+none-of-three false true v e = absurd (true≢false e)
+none-of-three false false true e = absurd (true≢false e)

@@ -1,0 +1,128 @@
+// The rules of an execution row on a row of an accepted table: plain comparisons, with no product of a gate.
+// Where one fails the row may still be right, and `execution` says which rule is not.
+use crate::lookup::looks_up;
+use form::Instruction;
+use rows::Exec;
+use word::add;
+use word::mul;
+ghost use mathlib.Core.Path.{_≡_};
+ghost use mathlib.Core.Bool.{true};
+ghost use Prim.Native.Nat.{ℕ, _<_};
+ghost use Rattle.word.specs.Word.{p, _*ₚ_};
+ghost use Rattle.rules.specs.Given.{zero?};
+ghost use Rattle.checks.specs.Parts.{selectedOf, lookupsThen, addressed, addressesThen, operationsThen, jumpsThen, execFails};
+
+// What is no word, and so no selected value.
+const NONE: u32 = 4294967295;
+
+// The selected value where the flags say which it is and it is a word.
+fn picked(flag: u32, fp_flag: u32, operand: u32, value: u32, fp: u32) -> u32
+    ensures { λ r. ⌜ (r < p → r ≡ selectedOf flag «fp_flag» operand value fp) ⌝ }
+{
+    if fp_flag == 0 {
+        if flag == 0 {
+            return value;
+        }
+        return if flag == 1 { operand } else { NONE };
+    }
+    if flag == 0 {
+        return if fp_flag == 1 { add(fp, operand) } else { NONE };
+    }
+    NONE
+}
+
+// Rules 1 to 4.
+fn found(count: usize, memory: &[u8], x: Exec) -> bool
+    ensures { λ r. ⌜ (r ≡ true → (rest : ℕ) → lookupsThen count (now (memory .entry)) x rest ≡ rest) ⌝ }
+{
+    if count <= (x.pc as usize) {
+        return false;
+    }
+    if !looks_up(memory, x.addrA as usize, x.valueA) {
+        return false;
+    }
+    if !looks_up(memory, x.addrB as usize, x.valueB) {
+        return false;
+    }
+    looks_up(memory, x.addrC as usize, x.valueC)
+}
+
+// Rule 5, 6 or 7: a cell is read at fp + operand, and else nothing is asked.
+fn placed(flag: u32, fp_flag: u32, addr: u32, fp: u32, operand: u32) -> bool
+    ensures { λ r. ⌜ (r ≡ true → zero? (addressed flag «fp_flag» addr fp operand) ≡ true) ⌝ }
+{
+    if flag == 0 {
+        if fp_flag == 0 {
+            return addr == add(fp, operand);
+        }
+        return fp_flag == 1;
+    }
+    (flag == 1) & (fp_flag == 0)
+}
+
+fn all_placed(i: Instruction, x: Exec) -> bool
+    ensures { λ r. ⌜ (r ≡ true → (rest : ℕ) → addressesThen i x rest ≡ rest) ⌝ }
+{
+    if !placed(i.fa, i.fpab, x.addrA, x.fp, i.a) {
+        return false;
+    }
+    if !placed(i.fb, i.fpab, x.addrB, x.fp, i.b) {
+        return false;
+    }
+    placed(i.fc, i.fpc, x.addrC, x.fp, i.c)
+}
+
+// Rules 8 to 11, by AUX: 0 is MUL or none, 1 ADD and 2 DEREF.
+fn operated(i: Instruction, x: Exec, a: u32, b: u32, c: u32) -> bool
+    ensures { λ r. ⌜ (r ≡ true → (rest : ℕ) → operationsThen i x a b c rest ≡ rest) ⌝ }
+{
+    if i.aux == 0 {
+        return (i.mul == 0) | (b == mul(a, c));
+    }
+    if i.aux == 1 {
+        return (i.mul == 0) & (b == add(a, c));
+    }
+    (i.aux == 2) & (i.mul == 0) & (x.addrB == add(x.valueA, i.b)) & (x.valueB == c)
+}
+
+// J = JUMP·νA
+fn jump_taken(jump: u32, a: u32) -> u32
+    ensures { λ r. ⌜ r ≡ jump *ₚ a ⌝ }
+{
+    if jump == 0 {
+        return 0;
+    }
+    mul(jump, a)
+}
+
+// Rules 12 to 16.
+fn moved(j: u32, x: Exec, y: Exec, a: u32, b: u32, c: u32) -> bool
+    ensures { λ r. ⌜ (r ≡ true → jumpsThen j x y a b c 0 ≡ 0) ⌝ }
+{
+    if j == 0 {
+        return (y.pc == add(x.pc, 1)) & (y.fp == x.fp);
+    }
+    (j == 1) & (a == 1) & (y.pc == b) & (y.fp == c)
+}
+
+// Whether these comparisons show that all rules hold.
+pub fn exec_holds(count: usize, memory: &[u8], x: Exec, y: Exec, i: Instruction) -> bool
+    ensures { λ r. ⌜ (r ≡ true → execFails count (now (memory .entry)) x y i ≡ 0) ⌝ }
+{
+    let a = picked(i.fa, i.fpab, i.a, x.valueA, x.fp);
+    let b = picked(i.fb, i.fpab, i.b, x.valueB, x.fp);
+    let c = picked(i.fc, i.fpc, i.c, x.valueC, x.fp);
+    if (2130706433 <= a) | (2130706433 <= b) | (2130706433 <= c) {
+        return false;
+    }
+    if !found(count, memory, x) {
+        return false;
+    }
+    if !all_placed(i, x) {
+        return false;
+    }
+    if !operated(i, x, a, b, c) {
+        return false;
+    }
+    moved(jump_taken(i.jump, a), x, y, a, b, c)
+}
