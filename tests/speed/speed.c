@@ -12,7 +12,10 @@
 #include "inputs.h"
 #include "../differ/library.h"
 
-enum { SIZES = 3, ROUNDS = 7 };
+enum { SIZES = 3 };
+
+/* so many runs of each size: the smaller, the more, so that some are not disturbed */
+static const int rounds_at[SIZES] = {80, 40, 20};
 
 typedef struct {
     speed_input *in;
@@ -172,15 +175,14 @@ static void tables(void)
     for (int s = 0; s < SIZES; s++) {
         speed_input in = speed_build(logs[s][0], logs[s][1], logs[s][2], 1);
         double rows = (double)(in.height + in.ext_height);
-        job j = {.in = &in, .ext = in.ext, .calls = s == 0 ? 16 : 1};
-        line("tabler", names[s], rows, timed(library_table, second_tables, &j, ROUNDS, "a run"), &table);
-        pair t = timed(library_judge, second_judges, &j, ROUNDS, "a table");
+        job j = {.in = &in, .ext = in.ext, .calls = 1};
+        line("tabler", names[s], rows, timed(library_table, second_tables, &j, rounds_at[s], "a run"), &table);
+        pair t = timed(library_judge, second_judges, &j, rounds_at[s], "a table");
         line("judge", names[s], rows, t, &judge);
         bytes_each_second(&in, t.library);
         speed_shuffle(&in, 2);
         j.ext = in.shuffled;
-        j.calls = 1;
-        line("judge, groups shuffled; sorted", names[s], rows, timed(library_judge, second_sorts, &j, 3, "a shuffled table"), &shuffled);
+        line("judge, groups shuffled; sorted", names[s], rows, timed(library_judge, second_sorts, &j, rounds_at[s], "a shuffled table"), &shuffled);
         if (s < 2) {
             double none = 0;
             line("judge, groups shuffled; counted", names[s], rows, timed(library_judge, second_judges, &j, 1, "a shuffled table"), &none);
@@ -191,13 +193,13 @@ static void tables(void)
 
 static void makers(void)
 {
-    static const uint32_t ms[SIZES] = {10, 15, 20}, ns[SIZES] = {31, 62, 124};
-    static const char *const sizes[SIZES] = {"m 10, n 31", "m 15, n 62", "m 20, n 124"};
+    static const uint32_t ms[SIZES] = {14, 17, 20}, ns[SIZES] = {31, 62, 124};
+    static const char *const sizes[SIZES] = {"m 14, n 31", "m 17, n 62", "m 20, n 124"};
     double before = 0;
     for (int s = 0; s < SIZES; s++) {
         speed_input in = speed_build(8, 8, 20, 1);
-        job j = {.in = &in, .seed = 5, .m = ms[s], .n = ns[s], .calls = s == 0 ? 256 : s == 1 ? 32 : 1};
-        line("maker, each cell", sizes[s], (double)((size_t)1 << ms[s]), timed(library_make, second_makes, &j, ROUNDS, "a recipe"), &before);
+        job j = {.in = &in, .seed = 5, .m = ms[s], .n = ns[s], .calls = 1};
+        line("maker, each cell", sizes[s], (double)((size_t)1 << ms[s]), timed(library_make, second_makes, &j, rounds_at[s], "a recipe"), &before);
         speed_free(&in);
     }
 }
@@ -209,8 +211,8 @@ static void labels(void)
     double before = 0;
     for (int s = 0; s < SIZES; s++) {
         text_len = probe_write(0x0123456789abcdef, 10, ns[s], text, sizeof text, answer, sizeof answer);
-        job j = {.seed = 1, .calls = 20000};
-        line("label reader, each byte", sizes[s], (double)text_len, timed(library_label, second_label, &j, ROUNDS, "a label"), &before);
+        job j = {.seed = 1, .calls = 2000};
+        line("label reader, each byte", sizes[s], (double)text_len, timed(library_label, second_label, &j, 100, "a label"), &before);
     }
 }
 

@@ -1,14 +1,14 @@
 -- What plain comparisons say of a rule: a gate that is 0 or two words that are equal leave 0, and a rule that holds is passed.
 -- Assumes nothing.
-use borrow.Author.Tests.{eq-eqb, eqb-true, leb-true, lt-ltb}
+use borrow.Author.Tests.{eq-eqb, eqb-true, leb-true, le-ltb, lt-ltb}
 use mathlib.Core.Path.{_≡_, refl}
 use mathlib.Core.Bool.{Bool, true, false, _&&_, _||_, true≢false, false≢true}
-use mathlib.Core.List.{List, [], _∷_}
-use Prim.Native.Nat.{ℕ, zero, suc, _+_, _*_, _/_, _<_}
+use mathlib.Core.List.{List}
+use Prim.Native.Nat.{ℕ, zero, suc, _+_, _*_, _/_, _<_, _≤_}
 use native.Mathlib.Omega.{arith}
 use lib.Dec.{eqb, leb, ltb}
 use lib.ListN.{length}
-use Rattle.word.specs.Word.{_-ₚ_, _*ₚ_}
+use Rattle.word.specs.Word.{p, _-ₚ_, _*ₚ_}
 use Rattle.word.specs.Bytes.{wordAt}
 use Rattle.word.specs.Element.{_⟨_⟩}
 use Rattle.word.proofs.WordLaws.{product-zero, difference-self}
@@ -23,6 +23,10 @@ pass n e s = rw e s
 -- a test that failed shows nothing
 pub never : {A : Type 0} → false ≡ true → A
 never e = absurd (false≢true e)
+
+-- what is no word shows nothing
+pub no-word : {A : Type 0} → 4294967295 < p → A
+no-word w = absurd (omega (arith, w))
 
 pub shut-rule : (gate x : ℕ) → gate ≡ 0 → zero? (gate *ₚ x) ≡ true
 shut-rule gate x e = eq-eqb (gate *ₚ x) 0 (rw (e, shut))
@@ -40,9 +44,13 @@ bit-rule zero e = refl
 bit-rule (suc zero) e = refl
 bit-rule (suc (suc x)) e = absurd (omega (arith, leb-true (suc (suc x)) 1 e))
 
-pub and-false : (t : Bool) → (t && false) ≡ false
+and-false : (t : Bool) → (t && false) ≡ false
 and-false true = refl
 and-false false = refl
+
+-- five cells of which the last is past the end
+pub no-five-cells : (memory : List ℕ) (addr : ℕ) (a : List ℕ) → length memory / 4 ≤ addr + 4 → false ≡ cellsAre memory addr a
+no-five-cells memory addr a h = simp (le-ltb (addr + 4) (length memory / 4) h, and-false)
 
 -- five cells that are all there
 pub five-cells : (memory : List ℕ) (addr : ℕ) (a : List ℕ) → addr + 4 < length memory / 4

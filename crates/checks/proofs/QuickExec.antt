@@ -4,27 +4,41 @@ use borrow.Author.Tests.{eqb-true}
 use mathlib.Core.Path.{_≡_, refl, sym, _∙_}
 use mathlib.Core.Bool.{true, _&&_, _||_}
 use mathlib.Core.List.{List, [], _∷_}
-use Prim.Native.Nat.{ℕ, _+_}
+use Prim.Native.Nat.{ℕ, _+_, _<_}
 use native.Mathlib.Omega.{arith}
 use lib.Dec.{eqb}
-use Rattle.word.specs.Word.{_+ₚ_, _-ₚ_, _*ₚ_}
-use Rattle.word.proofs.WordLaws.{difference-self}
+use Rattle.word.specs.Word.{p, _+ₚ_, _-ₚ_, _*ₚ_}
+use Rattle.word.proofs.WordLaws.{difference-self, sum-zero}
 use Rattle.form.specs.declared.Instruction.{Instruction}
 use Rattle.form.proofs.Cases.{each, either}
 use Rattle.rows.specs.declared.Exec.{Exec}
+use Rattle.rules.specs.Given.{zero?}
 use Rattle.rules.specs.Execution.{ADD, DEREF}
-use Rattle.checks.specs.Parts.{selectedOf, lookupsThen, addressesThen, operationsThen, jumpsThen, execFails}
+use Rattle.checks.specs.Parts.{selectedOf, lookupsThen, addressed, addressesThen, operationsThen, jumpsThen, execFails}
+use Rattle.checks.proofs.Shut.{looked-up, immediate, framed}
 use Rattle.checks.proofs.Quick.{pass, shut-rule, same-rule, same-test}
 
 -- one flag of two is 1, so no cell is read
-pub no-cell : (flag fpFlag : ℕ) → flag + fpFlag ≡ 1 → 1 -ₚ flag -ₚ fpFlag ≡ 0
+no-cell : (flag fpFlag : ℕ) → flag + fpFlag ≡ 1 → 1 -ₚ flag -ₚ fpFlag ≡ 0
 unfolding _-ₚ_
 no-cell flag fpFlag h = omega arith
 
--- fp + operand itself
-pub framed : (operand value fp : ℕ) → fp +ₚ operand ≡ selectedOf 0 1 operand value fp
-unfolding _+ₚ_ _-ₚ_ _*ₚ_
-framed operand value fp = omega arith
+-- what an operand's selected value is, and that its address rule holds
+abbrev Shown : ℕ → ℕ → ℕ → ℕ → ℕ → ℕ → ℕ → Type 0
+Shown r flag fpFlag operand addr value fp =
+    (r ≡ selectedOf flag fpFlag operand value fp) × (zero? (addressed flag fpFlag addr fp operand) ≡ true)
+
+-- an operand by its flags: a cell at fp + operand, an immediate, and fp + operand itself
+module _ (operand addr value fp : ℕ) where
+  pub cell : value < p → addr ≡ fp +ₚ operand → Shown value 0 0 operand addr value fp
+  cell w e = (sym (sum-zero value w) ∙ looked-up operand value fp, same-rule (1 -ₚ 0 -ₚ 0) addr (fp +ₚ operand) e)
+
+  pub at-once : operand < p → Shown operand 1 0 operand addr value fp
+  at-once w =
+      (sym (sum-zero operand w) ∙ immediate operand value fp, shut-rule (1 -ₚ 1 -ₚ 0) (addr -ₚ (fp +ₚ operand)) (no-cell 1 0 refl))
+
+  pub in-frame : Shown (fp +ₚ operand) 0 1 operand addr value fp
+  in-frame = (framed operand value fp, shut-rule (1 -ₚ 0 -ₚ 1) (addr -ₚ (fp +ₚ operand)) (no-cell 0 1 refl))
 
 -- the opcode words by AUX
 add-off : (i : Instruction) → i .aux ≡ 0 → ADD i ≡ 0
@@ -97,14 +111,14 @@ module _ (j : ℕ) (x y : Exec) (a b c : ℕ) where
 
 -- all sixteen, for what the selected values are
 pub all-hold : (count : ℕ) (memory : List ℕ) (x y : Exec) (i : Instruction) (a b c j : ℕ)
-    → a ≡ selectedOf (i .fa) (i .fpab) (i .a) (x .valueA) (x .fp)
-    → b ≡ selectedOf (i .fb) (i .fpab) (i .b) (x .valueB) (x .fp)
-    → c ≡ selectedOf (i .fc) (i .fpc) (i .c) (x .valueC) (x .fp)
+    → Shown a (i .fa) (i .fpab) (i .a) (x .addrA) (x .valueA) (x .fp)
+    → Shown b (i .fb) (i .fpab) (i .b) (x .addrB) (x .valueB) (x .fp)
+    → Shown c (i .fc) (i .fpc) (i .c) (x .addrC) (x .valueC) (x .fp)
     → j ≡ i .jump *ₚ a
     → ((rest : ℕ) → lookupsThen count memory x rest ≡ rest)
-    → ((rest : ℕ) → addressesThen i x rest ≡ rest)
     → ((rest : ℕ) → operationsThen i x a b c rest ≡ rest)
     → jumpsThen j x y a b c 0 ≡ 0
     → execFails count memory x y i ≡ 0
-all-hold count memory x y i a b c j ea eb ec ej looked placed operated moved =
-    rw (← ea, ← eb, ← ec, ← ej) (looked _ ∙ placed _ ∙ operated _ ∙ moved)
+all-hold count memory x y i a b c j sa sb sc ej looked operated moved =
+    let placed : (rest : ℕ) → addressesThen i x rest ≡ rest = λ rest. pass 5 (sa .1) (pass 6 (sb .1) (pass 7 (sc .1) refl)) in
+    rw (← sa .0, ← sb .0, ← sc .0, ← ej) (looked _ ∙ placed _ ∙ operated _ ∙ moved)

@@ -1,7 +1,7 @@
 -- The groups of an extension row's rules, by the comparisons that show them.
 -- Assumes nothing.
-use borrow.Author.Tests.{eqb-true, ltb-true}
-use mathlib.Core.Path.{_≡_, refl, sym, _∙_}
+use borrow.Author.Tests.{ltb-true}
+use mathlib.Core.Path.{_≡_, refl, _∙_}
 use mathlib.Core.Bool.{true, _&&_}
 use mathlib.Core.List.{List, [], _∷_}
 use Prim.Native.Nat.{ℕ, _<_}

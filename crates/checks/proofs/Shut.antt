@@ -23,6 +23,10 @@ pub immediate : (operand value fp : ℕ) → operand +ₚ 0 ≡ selectedOf 1 0 o
 unfolding _+ₚ_ _-ₚ_ _*ₚ_
 immediate operand value fp = omega arith
 
+pub framed : (operand value fp : ℕ) → fp +ₚ operand ≡ selectedOf 0 1 operand value fp
+unfolding _+ₚ_ _-ₚ_ _*ₚ_
+framed operand value fp = omega arith
+
 -- rules 6 to 8 on a row with no operation
 pub no-operation : (x y : Ext) (v tail : List ℕ) (rest : ℕ) → x .add ≡ 0 → x .mul ≡ 0 → x .peq ≡ 0 → rest ≡ operatesThen x y v tail rest
 no-operation x y v tail rest a m q = simp (a, m, q, scale-zero)

@@ -1,5 +1,5 @@
-// The rules of an execution row on a row of an accepted table: plain comparisons, with no product of a gate.
-// Where one fails the row may still be right, and `execution` says which rule is not.
+// The rules of an execution row by plain comparisons, with no product of a gate: they say yes on nearly every row of an accepted table.
+// So the judge tries `exec_holds` first, and asks `exec_failing` only where that says no: the row may still be right.
 use crate::lookup::looks_up;
 use form::Instruction;
 use rows::Exec;
@@ -10,18 +10,22 @@ ghost use mathlib.Core.Bool.{true};
 ghost use Prim.Native.Nat.{ℕ, _<_};
 ghost use Rattle.word.specs.Word.{p, _*ₚ_};
 ghost use Rattle.rules.specs.Given.{zero?};
-ghost use Rattle.checks.specs.Parts.{selectedOf, lookupsThen, addressed, addressesThen, operationsThen, jumpsThen, execFails};
+ghost use Rattle.checks.specs.Parts.{selectedOf, lookupsThen, addressed, operationsThen, jumpsThen, execFails};
 
 // What is no word, and so no selected value.
 const NONE: u32 = 4294967295;
 
-// The selected value where the flags say which it is and it is a word.
-fn picked(flag: u32, fp_flag: u32, operand: u32, value: u32, fp: u32) -> u32
-    ensures { λ r. ⌜ (r < p → r ≡ selectedOf flag «fp_flag» operand value fp) ⌝ }
+// An operand's selected value where the flags say which it is, it is a word, and rule 5, 6 or 7 holds: a cell is read at fp + operand.
+fn picked(flag: u32, fp_flag: u32, operand: u32, addr: u32, value: u32, fp: u32) -> u32
+    ensures { λ r. ⌜ (r < p → (r ≡ selectedOf flag «fp_flag» operand value fp) × (zero? (addressed flag «fp_flag» addr fp operand) ≡ true)) ⌝ }
 {
     if fp_flag == 0 {
         if flag == 0 {
-            return value;
+            return if addr == add(fp, operand) {
+                value
+            } else {
+                NONE
+            };
         }
         return if flag == 1 { operand } else { NONE };
     }
@@ -45,31 +49,6 @@ fn found(count: usize, memory: &[u8], x: Exec) -> bool
         return false;
     }
     looks_up(memory, x.addrC as usize, x.valueC)
-}
-
-// Rule 5, 6 or 7: a cell is read at fp + operand, and else nothing is asked.
-fn placed(flag: u32, fp_flag: u32, addr: u32, fp: u32, operand: u32) -> bool
-    ensures { λ r. ⌜ (r ≡ true → zero? (addressed flag «fp_flag» addr fp operand) ≡ true) ⌝ }
-{
-    if flag == 0 {
-        if fp_flag == 0 {
-            return addr == add(fp, operand);
-        }
-        return fp_flag == 1;
-    }
-    (flag == 1) & (fp_flag == 0)
-}
-
-fn all_placed(i: Instruction, x: Exec) -> bool
-    ensures { λ r. ⌜ (r ≡ true → (rest : ℕ) → addressesThen i x rest ≡ rest) ⌝ }
-{
-    if !placed(i.fa, i.fpab, x.addrA, x.fp, i.a) {
-        return false;
-    }
-    if !placed(i.fb, i.fpab, x.addrB, x.fp, i.b) {
-        return false;
-    }
-    placed(i.fc, i.fpc, x.addrC, x.fp, i.c)
 }
 
 // Rules 8 to 11, by AUX: 0 is MUL or none, 1 ADD and 2 DEREF.
@@ -109,16 +88,13 @@ fn moved(j: u32, x: Exec, y: Exec, a: u32, b: u32, c: u32) -> bool
 pub fn exec_holds(count: usize, memory: &[u8], x: Exec, y: Exec, i: Instruction) -> bool
     ensures { λ r. ⌜ (r ≡ true → execFails count (now (memory .entry)) x y i ≡ 0) ⌝ }
 {
-    let a = picked(i.fa, i.fpab, i.a, x.valueA, x.fp);
-    let b = picked(i.fb, i.fpab, i.b, x.valueB, x.fp);
-    let c = picked(i.fc, i.fpc, i.c, x.valueC, x.fp);
+    let a = picked(i.fa, i.fpab, i.a, x.addrA, x.valueA, x.fp);
+    let b = picked(i.fb, i.fpab, i.b, x.addrB, x.valueB, x.fp);
+    let c = picked(i.fc, i.fpc, i.c, x.addrC, x.valueC, x.fp);
     if (2130706433 <= a) | (2130706433 <= b) | (2130706433 <= c) {
         return false;
     }
     if !found(count, memory, x) {
-        return false;
-    }
-    if !all_placed(i, x) {
         return false;
     }
     if !operated(i, x, a, b, c) {

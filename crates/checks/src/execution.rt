@@ -1,5 +1,4 @@
-// The rules of an execution row.
-use crate::exec_quick::exec_holds;
+// The rules of an execution row, by the polynomials. The judge asks only where `exec_holds` says no.
 use crate::gated;
 use crate::lookup::looks_up;
 use form::Instruction;
@@ -130,8 +129,8 @@ fn jumps(j: u32, x: Exec, y: Exec, a: u32, b: u32, c: u32) -> u32
     first_of(12, condition, first_of(13, dest, first_of(14, frame, last)))
 }
 
-// The first execution rule that fails, by the polynomials.
-fn exec_rule(count: usize, memory: &[u8], x: Exec, y: Exec, i: Instruction) -> u32
+// The first execution rule that fails on a row x paired with y, and 0 where all hold.
+pub fn exec_failing(count: usize, memory: &[u8], x: Exec, y: Exec, i: Instruction) -> u32
     ensures { λ r. ⌜ r ≡ execFails count (now (memory .entry)) x y i ⌝ }
 {
     let a = selected(i.fa, i.fpab, i.a, x.valueA, x.fp);
@@ -144,14 +143,4 @@ fn exec_rule(count: usize, memory: &[u8], x: Exec, y: Exec, i: Instruction) -> u
         x,
         addresses(i, x, operations(i, x, a, b, c, last)),
     )
-}
-
-// The first execution rule that fails on a row x paired with y, and 0 where all hold.
-pub fn exec_failing(count: usize, memory: &[u8], x: Exec, y: Exec, i: Instruction) -> u32
-    ensures { λ r. ⌜ r ≡ execFails count (now (memory .entry)) x y i ⌝ }
-{
-    if exec_holds(count, memory, x, y, i) {
-        return 0;
-    }
-    exec_rule(count, memory, x, y, i)
 }

@@ -1,5 +1,6 @@
-// The rules of an extension row but 6 to 9, on a row of an accepted table: plain comparisons, with no product of a gate.
-// Where one fails the row may still be right, and `extension` says which rule is not.
+// The rules of an extension row but 6 to 9 by plain comparisons, with no product of a gate: they say yes on nearly every row of an accepted table.
+// So the judge tries `ext_holds` first, and asks `ext_failing` only where that says no: the row may still be right.
+use crate::accumulation::accumulates;
 use crate::lookup::looks_up;
 use crate::lookup::looks_up_five;
 use rows::Ext;
@@ -80,7 +81,7 @@ fn followed(x: Ext, y: Ext) -> bool
 }
 
 // Whether these comparisons show that all rules but 6 to 9 hold.
-pub fn others_hold(memory: &[u8], x: Ext, y: Ext) -> bool
+fn others_hold(memory: &[u8], x: Ext, y: Ext) -> bool
     ensures { λ r. ⌜ (r ≡ true → extFails (now (memory .entry)) x y ≡ accumulatesThen x y (selected x) (compTail y) 0) ⌝ }
 {
     if !found(memory, x) {
@@ -90,4 +91,14 @@ pub fn others_hold(memory: &[u8], x: Ext, y: Ext) -> bool
         return false;
     }
     followed(x, y)
+}
+
+// Whether these comparisons and rules 6 to 9 show that all rules hold.
+pub fn ext_holds(memory: &[u8], x: Ext, y: Ext) -> bool
+    ensures { λ r. ⌜ (r ≡ true → extFails (now (memory .entry)) x y ≡ 0) ⌝ }
+{
+    if !others_hold(memory, x, y) {
+        return false;
+    }
+    accumulates(x, y, 0) == 0
 }

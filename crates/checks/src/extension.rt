@@ -1,6 +1,5 @@
-// The rules of an extension row.
+// The rules of an extension row, by the polynomials. The judge asks only where `ext_holds` says no.
 use crate::accumulation::accumulates;
-use crate::ext_quick::others_hold;
 use crate::gated;
 use crate::lookup::looks_up;
 use crate::lookup::looks_up_five;
@@ -77,21 +76,11 @@ fn steps(inside: u32, x: Ext, y: Ext) -> u32
     first_of(15, a, first_of(16, b, first_of(17, last, 0)))
 }
 
-// The first extension rule that fails, by the polynomials.
-fn ext_rule(memory: &[u8], x: Ext, y: Ext) -> u32
+// The first extension rule that fails on a row x paired with y, and 0 where all hold.
+pub fn ext_failing(memory: &[u8], x: Ext, y: Ext) -> u32
     ensures { λ r. ⌜ r ≡ extFails (now (memory .entry)) x y ⌝ }
 {
     let inside = sub(1, y.start);
     let inner = sames(inside, x, y, steps(inside, x, y));
     ext_lookups(memory, x, bits(x, accumulates(x, y, inner)))
-}
-
-// The first extension rule that fails on a row x paired with y, and 0 where all hold.
-pub fn ext_failing(memory: &[u8], x: Ext, y: Ext) -> u32
-    ensures { λ r. ⌜ r ≡ extFails (now (memory .entry)) x y ⌝ }
-{
-    if others_hold(memory, x, y) {
-        return accumulates(x, y, 0);
-    }
-    ext_rule(memory, x, y)
 }

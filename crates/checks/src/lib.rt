@@ -6,8 +6,10 @@ mod ext_quick;
 mod extension;
 mod lookup;
 
+pub use exec_quick::exec_holds;
 pub use execution::exec_failing;
 pub use execution::selected;
+pub use ext_quick::ext_holds;
 pub use extension::ext_failing;
 ghost use mathlib.Core.Path.{_≡_};
 ghost use Rattle.rules.specs.Given.{zero?};

@@ -1,3 +1,4 @@
 pub mod Cases
 pub mod DataLaws
 pub mod Forms
+pub mod Part

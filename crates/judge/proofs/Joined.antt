@@ -10,12 +10,9 @@ use Rattle.rules.specs.Bus.{pushes, pulls, instructionOf, total, balanced}
 use Rattle.judged.specs.First.{first}
 use Rattle.judged.specs.Judged.{pushBalanced, pullBalanced, firstPush, firstPull}
 use Rattle.judged.proofs.FirstLaws.{first-before, first-fails, first-found, first-none}
+use Rattle.paired.proofs.Totals.{total-same}
 use Rattle.judge.specs.declared.Tally.{Tally}
 use Rattle.judge.specs.Senders.{Sending, pushSent, pullSent, sendingOf, equalAt, Reads}
-
-total-same : (f a : ℕ → ℕ) (n : ℕ) → ((r : ℕ) → r < n → f r ≡ a r) → total f n ≡ total a n
-total-same f a zero same = refl
-total-same f a (suc n) same = omega (arith, total-same f a n (λ r h. same r (omega arith)), same n (omega arith))
 
 -- totals of two sequences, one after the other
 pub total-join : (f a b : ℕ → ℕ) (h k : ℕ) → ((r : ℕ) → r < h → f r ≡ a r) → ((r : ℕ) → r < k → f (h + r) ≡ b r)

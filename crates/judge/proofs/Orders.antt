@@ -4,7 +4,6 @@ use mathlib.Core.Path.{_≡_, refl, sym, ap, _∙_}
 use mathlib.Core.Bool.{Bool, true, false}
 use mathlib.Core.List.{List, []}
 use Prim.Native.Nat.{ℕ, zero, suc, _+_, _-_, _*_, _/_, _≤_, _<_}
-use native.Mathlib.Numerals.{add-one}
 use native.Mathlib.Omega.{arith}
 use lib.ListN.{length}
 use lib.Dec.{leb}
@@ -15,6 +14,7 @@ use Rattle.rules.specs.Bus.{Tuple, sameTuple, pushed, pushes, pulled, pulls, to
 use Rattle.judged.specs.First.{first}
 use Rattle.judged.proofs.FirstLaws.{is-first}
 use Rattle.rules.specs.Sizes.{given, tables}
+use Rattle.paired.proofs.Totals.{one-more, counts-none}
 use Rattle.judge.specs.Bus.{idle, InOrder}
 
 -- how often one row pushes, or pulls, a tuple
@@ -42,15 +42,7 @@ flat f k (suc m) h none = go (leb k m) refl (λ low. flat f k m low (λ j a b. n
         let same : k ≡ suc m = omega arith in
         rw same
 
--- a row more
-pub one-more : (f : ℕ → ℕ) (n : ℕ) → total f (n + 1) ≡ total f n + f n
-one-more f n = rw (add-one n)
-
--- what a row counts of a tuple: nothing where it counts no tuple, and the same as another row of the same tuple
-pub counts-none : (b : Bool) (n : ℕ) → n ≡ 0 → either b n 0 ≡ 0
-counts-none true n e = e
-counts-none false n e = refl
-
+-- what a row counts of a tuple is the same as another row of the same tuple
 counts-same : (s t σ : Tuple) (n m : ℕ) → s ≡ t → n ≡ m → either (sameTuple s σ) n 0 ≡ either (sameTuple t σ) m 0
 counts-same s t σ n m e h = rw (e, h)
 

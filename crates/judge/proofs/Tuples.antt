@@ -1,23 +1,20 @@
--- How often a row pushes and pulls: what well-formed instructions and flags that are 0 or 1 leave of it, and when two tuples are the same.
+-- How often a row pushes and pulls: what well-formed instructions and flags that are 0 or 1 leave of it.
 -- Assumes nothing.
 use mathlib.Core.Path.{_≡_, sym}
 use mathlib.Core.Bool.{Bool, true, false, not}
-use mathlib.Core.List.{[], _∷_}
 use Prim.Native.Nat.{ℕ, _+_, _*_, _≤_}
 use native.Mathlib.Nat.{mul-le-mul-right}
 use native.Mathlib.Omega.{arith}
-use lib.Dec.{eqb}
-use borrow.Author.Tests.{eqb-true, not-true, not-false}
+use borrow.Author.Tests.{not-true, not-false}
 use Rattle.word.specs.Word.{_+ₚ_, _-ₚ_, _*ₚ_}
 use Rattle.form.specs.Form.{wellFormed, opcode}
 use Rattle.form.specs.declared.Instruction.{Instruction}
 use Rattle.form.specs.declared.Kind.{Kind}
 use Rattle.form.specs.declared.Kind.the-variants.{Add, Mul, Deref, Jump, Extension}
-use Rattle.form.proofs.Cases.{each}
 use Rattle.form.proofs.Forms.{Words, well, formed-of}
 use Rattle.rows.specs.declared.Ext.{Ext}
 use Rattle.rules.specs.Given.{either}
-use Rattle.rules.specs.Bus.{Tuple, sameTuple, pushes, pulls}
+use Rattle.rules.specs.Bus.{pushes, pulls}
 use Rattle.judge.specs.Bus.{Flags}
 
 -- by its kind, a well-formed instruction pushes once where it has no opcode word, and else not
@@ -44,15 +41,3 @@ one-push b h e = sym (rw (not-false b e) at h)
 -- a row pulls at most three times
 pub at-most-three : (x : Ext) → Flags x → pulls x ≤ 3
 at-most-three x flags = omega (arith, mul-le-mul-right (x .add + x .mul + x .peq) (flags .start-bit))
-
--- tuples that the test finds the same are
-pub same-tuple : (s t : Tuple) → sameTuple s t ≡ true → s ≡ t
-same-tuple s t e =
-    let parts = each (eqb (s .aux) (t .aux)) (eqb (s .left) (t .left) ∷ eqb (s .right) (t .right) ∷ eqb (s .out) (t .out) ∷ []) e in
-    λ i.
-    record {
-      aux = eqb-true (s .aux) (t .aux) (parts .0) i;
-      left = eqb-true (s .left) (t .left) (parts .1 .0) i;
-      right = eqb-true (s .right) (t .right) (parts .1 .1 .0) i;
-      out = eqb-true (s .out) (t .out) (parts .1 .1 .1) i;
-    }

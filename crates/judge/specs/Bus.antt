@@ -10,11 +10,6 @@ use Rattle.rows.specs.declared.Ext.{Ext}
 use Rattle.rules.specs.Given.{zero?}
 use Rattle.rules.specs.Bus.{Tuple, pulls, pushedTo, pulledTo, instructionOf}
 use Rattle.rules.specs.Sizes.{given, tables}
-use Rattle.judge.specs.declared.Sent.{Sent}
-
--- the code's tuple
-abbrev pub tupleOf : Sent → Tuple
-tupleOf s = record { aux = s .aux; left = s .left; right = s .right; out = s .out }
 
 -- what the instructions and the execution rules leave: each row's instruction is well-formed
 abbrev pub Formed : List ℕ → List ℕ → Type 0

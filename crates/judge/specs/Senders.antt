@@ -6,9 +6,9 @@ use lib.Dec.{ltb}
 use Rattle.rules.specs.Given.{Given, Tables, zero?}
 use Rattle.rules.specs.Bus.{Tuple, pushed, pushes, pulled, pulls, instructionOf, balanced}
 use Rattle.judged.specs.First.{first}
+use Rattle.paired.specs.Slots.{tupleOf}
 use Rattle.judge.specs.declared.Tally.{Tally}
 use Rattle.judge.specs.declared.Looked.{Looked}
-use Rattle.judge.specs.Bus.{tupleOf}
 
 -- a tuple, how often it is pushed, and how often it is pulled
 pub record Sending : Type 0 where

@@ -1,10 +1,10 @@
 // Which tuples a window holds: those of the senders from one on. Nothing depends on the choice but how much a window settles.
-use crate::Sent;
 use crate::seek::lower_of;
 use crate::seek::place;
 use crate::seek::seek;
 use crate::seek::upper_of;
 use crate::sender::sender;
+use paired::Sent;
 ghost use mathlib.Core.List.{[]};
 ghost use Prim.Native.Nat.{_+_, _/_, _<_, _≤_};
 ghost use lib.ListN.{length};

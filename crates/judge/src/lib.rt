@@ -10,18 +10,11 @@ mod tuple;
 mod window;
 
 use answer::Answer;
+use paired::Sent;
 use parts::bad_part;
 use stage::words_answer;
 ghost use mathlib.Core.Path.{_≡_};
 ghost use Rattle.judged.specs.Judged.{judgeOf};
-
-// A tuple that a row pushes or pulls on the bus.
-struct Sent {
-    aux: u32,
-    left: u32,
-    right: u32,
-    out: u32,
-}
 
 // A tuple, how often it is pushed, and how often it is pulled.
 struct Tally {

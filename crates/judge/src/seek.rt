@@ -1,14 +1,19 @@
 // Where a window of 1024 slots holds a tuple. A slot is a number of `upper` and one of `lower`; slots 1 to 1023 are kept sorted, and those
 // not used are above every tuple. Nothing is proved of the order: a slot that is found holds the tuple, and the same tuple is always
 // found in the same slot, which is all that counting needs.
-use crate::Sent;
-use crate::tuple::same;
-use crate::tuple::wide;
+use paired::Sent;
+use paired::same;
 ghost use mathlib.Core.Path.{_≡_};
 ghost use Prim.Native.Nat.{_+_, _*_, _/_, _%_, _<_, _≤_};
 ghost use Rattle.rules.specs.Bus.{sameTuple};
-ghost use Rattle.judge.specs.Bus.{tupleOf};
+ghost use Rattle.paired.specs.Slots.{tupleOf};
 ghost use Rattle.judge.specs.Window.{tupleAt, atMost, stepped, placeOf, slotOf};
+
+fn wide(x: u32) -> u64
+    ensures { λ r. ⌜ (r ≡ x) × (r < 4294967296) ⌝ }
+{
+    x as u64
+}
 
 // Two words in a number.
 fn joined(high: u32, low: u32) -> u64

@@ -1,12 +1,12 @@
 // The execution rows and then the extension rows as one sequence of senders, in the order in which verdict 7 tries them.
-use crate::Sent;
 use crate::Tally;
 use crate::tuple::flagged_row;
 use crate::tuple::instruction_of;
 use crate::tuple::pull_times;
-use crate::tuple::pulled_tuple;
-use crate::tuple::pushed_tuple;
 use crate::tuple::pushing;
+use paired::Sent;
+use paired::pulled_tuple;
+use paired::pushed_tuple;
 use rows::exec_row;
 ghost use mathlib.Core.List.{[]};
 ghost use Prim.Native.Nat.{_+_, _/_, _<_};

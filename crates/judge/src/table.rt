@@ -1,14 +1,23 @@
-// One walk over each table: the first row with a rule that fails.
+// One walk over each table: the first row with a rule that fails. Each row is read once and tried by plain comparisons; only where they
+// don't settle it are the polynomials taken.
 use checks::exec_failing;
+use checks::exec_holds;
 use checks::ext_failing;
+use checks::ext_holds;
 use form::instruction_at;
+use rows::Exec;
+use rows::Ext;
 use rows::exec_row;
 use rows::ext_row;
 ghost use mathlib.Core.Path.{_≡_};
+ghost use mathlib.Core.Bool.{true};
 ghost use mathlib.Core.List.{[]};
-ghost use Prim.Native.Nat.{_/_, _<_};
+ghost use Prim.Native.Nat.{_*_, _/_, _<_};
 ghost use lib.ListN.{length};
+ghost use Rattle.form.specs.Instruction.{instructionAt};
+ghost use Rattle.rows.specs.Rows.{execAt, extAt};
 ghost use Rattle.rules.specs.Given.{next};
+ghost use Rattle.checks.specs.Parts.{execFails};
 ghost use Rattle.judged.specs.Judged.{execFailing, extFailing, firstExec, firstExt};
 ghost use Rattle.rules.specs.Sizes.{given, tables};
 
@@ -18,6 +27,24 @@ fn paired(n: usize, r: usize) -> usize
     ensures { λ s. ⌜ (s ≡ next n r) × (s < n) ⌝ }
 {
     if r + 1 < n { r + 1 } else { r }
+}
+
+// Execution row r, read from its own bytes with no test.
+fn exec_at(exec: &[u8], r: usize) -> Exec
+    requires { ⌜ r < length (now exec) / 32 ⌝ }
+    ensures { λ x. ⌜ x ≡ execAt (now (exec .entry)) (32 * r) ⌝ }
+{
+    let at = 32 * r;
+    exec_row(&exec[at..at + 32], 0)
+}
+
+// Extension row r, likewise.
+pub fn ext_at(ext: &[u8], r: usize) -> Ext
+    requires { ⌜ r < length (now ext) / 120 ⌝ }
+    ensures { λ x. ⌜ x ≡ extAt (now (ext .entry)) (120 * r) ⌝ }
+{
+    let at = 120 * r;
+    ext_row(&ext[at..at + 120], 0)
 }
 
 // The rule that fails on an execution row, 0 where none does.
@@ -41,16 +68,35 @@ pub fn ext_row_failing(memory: &[u8], ext: &[u8], r: usize) -> u32
     ext_failing(memory, x, y)
 }
 
+// Whether comparisons show that all rules hold on a row x paired with y, whose instruction is there and is read with no test.
+fn exec_pair_holds(program: &[u8], memory: &[u8], x: Exec, y: Exec) -> bool
+    ensures { λ b. ⌜ (b ≡ true → execFails (length (now (program .entry)) / 48) (now (memory .entry)) x y (instructionAt (now (program .entry)) (48 * x .pc)) ≡ 0) ⌝ }
+{
+    let pc = x.pc as usize;
+    let count = program.len() / 48;
+    if count <= pc {
+        return false;
+    }
+    let at = 48 * pc;
+    let i = instruction_at(&program[at..at + 48], 0);
+    exec_holds(count, memory, x, y, i)
+}
+
 // The first execution row with a rule that fails; their number where there is none.
 pub fn first_exec(program: &[u8], memory: &[u8], exec: &[u8]) -> usize
     ensures { λ s. ⌜ s ≡ firstExec (given (now (program .entry)) (now (memory .entry))) (tables (now (exec .entry)) []) ⌝ }
 {
     let n = exec.len() / 32;
+    let mut x = exec_row(exec, 0);
     let mut r = 0;
     while r < n {
-        if exec_row_failing(program, memory, exec, r) != 0 {
-            return r;
+        let y = exec_at(exec, paired(n, r));
+        if !exec_pair_holds(program, memory, x, y) {
+            if exec_row_failing(program, memory, exec, r) != 0 {
+                return r;
+            }
         }
+        x = y;
         r += 1;
     }
     r
@@ -61,11 +107,16 @@ pub fn first_ext(memory: &[u8], ext: &[u8]) -> usize
     ensures { λ s. ⌜ s ≡ firstExt (given [] (now (memory .entry))) (tables [] (now (ext .entry))) ⌝ }
 {
     let n = ext.len() / 120;
+    let mut x = ext_row(ext, 0);
     let mut r = 0;
     while r < n {
-        if ext_row_failing(memory, ext, r) != 0 {
-            return r;
+        let y = ext_at(ext, paired(n, r));
+        if !ext_holds(memory, x, y) {
+            if ext_row_failing(memory, ext, r) != 0 {
+                return r;
+            }
         }
+        x = y;
         r += 1;
     }
     r

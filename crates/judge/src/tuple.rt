@@ -1,12 +1,12 @@
-// Tuples of the bus: what a row pushes or pulls, and how often.
-use crate::Sent;
-use checks::selected;
+// How often a row pushes or pulls, and whether two rows do the same tuple.
+use crate::table::ext_at;
 use form::Instruction;
 use form::instruction_at;
+use paired::pulled_tuple;
+use paired::pushed_tuple;
+use paired::same;
 use rows::Exec;
 use rows::Ext;
-use rows::ext_row;
-use word::P;
 use word::word_at;
 ghost use mathlib.Core.Path.{_≡_};
 ghost use mathlib.Core.Bool.{_&&_};
@@ -18,13 +18,7 @@ ghost use Rattle.rows.specs.Rows.{extAt};
 ghost use Rattle.rules.specs.Given.{either};
 ghost use Rattle.rules.specs.Bus.{sameTuple, pushed, pushes, pulled, pulls, instructionOf};
 ghost use Rattle.rules.specs.Sizes.{given, tables};
-ghost use Rattle.judge.specs.Bus.{tupleOf, Formed, Flags, Flagged};
-
-pub fn wide(x: u32) -> u64
-    ensures { λ r. ⌜ (r ≡ x) × (r < 4294967296) ⌝ }
-{
-    x as u64
-}
+ghost use Rattle.judge.specs.Bus.{Formed, Flags, Flagged};
 
 // The instruction of execution row r, of which only pc is read.
 pub fn instruction_of(program: &[u8], exec: &[u8], r: usize) -> Instruction
@@ -36,17 +30,15 @@ pub fn instruction_of(program: &[u8], exec: &[u8], r: usize) -> Instruction
 }
 
 // Whether execution row r pushes: a well-formed instruction with no opcode word is a precompile and pushes once; any other doesn't
-// push. Of most rows no more is read.
+// push.
 pub fn pushing(program: &[u8], exec: &[u8], r: usize) -> bool
     requires { ⌜ Formed (now program) (now exec) ⌝ }
     requires { ⌜ r < length (now exec) / 32 ⌝ }
     ensures { λ b. ⌜ either b 1 0 ≡ pushes (instructionOf (given (now (program .entry)) []) (tables (now (exec .entry)) []) r) ⌝ }
 {
     let pc = word_at(exec, 32 * r);
-    let at = 48 * (pc as usize);
-    (word_at(program, at + 32) == 0)
-        & (word_at(program, at + 36) == 0)
-        & (word_at(program, at + 40) == 0)
+    let i = instruction_at(program, 48 * (pc as usize));
+    (i.mul == 0) & (i.jump == 0) & (i.aux == 0)
 }
 
 // Extension row k.
@@ -55,42 +47,7 @@ pub fn flagged_row(ext: &[u8], k: usize) -> Ext
     requires { ⌜ k < length (now ext) / 120 ⌝ }
     ensures { λ y. ⌜ (y ≡ extAt (now (ext .entry)) (120 * k)) × Flags y ⌝ }
 {
-    ext_row(ext, 120 * k)
-}
-
-// (DATA, νA, νB, νC)
-pub fn pushed_tuple(i: Instruction, x: Exec) -> Sent
-    ensures { λ r. ⌜ tupleOf r ≡ pushed i x ⌝ }
-{
-    let left = selected(i.fa, i.fpab, i.a, x.valueA, x.fp);
-    let right = selected(i.fb, i.fpab, i.b, x.valueB, x.fp);
-    let out = selected(i.fc, i.fpc, i.c, x.valueC, x.fp);
-    Sent {
-        aux: i.data,
-        left,
-        right,
-        out,
-    }
-}
-
-// (2·be + 4·add + 8·mul + 16·peq + 32·len, idxA, idxB, idxR)
-pub fn pulled_tuple(x: Ext) -> Sent
-    ensures { λ r. ⌜ tupleOf r ≡ pulled x ⌝ }
-{
-    let flags = 2 * wide(x.be) + 4 * wide(x.add) + 8 * wide(x.mul) + 16 * wide(x.peq);
-    let data = flags + 32 * wide(x.len);
-    Sent {
-        aux: (data % P) as u32,
-        left: x.idxA,
-        right: x.idxB,
-        out: x.idxR,
-    }
-}
-
-pub fn same(s: Sent, t: Sent) -> bool
-    ensures { λ r. ⌜ r ≡ sameTuple (tupleOf s) (tupleOf t) ⌝ }
-{
-    (s.aux == t.aux) & (s.left == t.left) & (s.right == t.right) & (s.out == t.out)
+    ext_at(ext, k)
 }
 
 // How often a row pulls: the whole number, not 0 or 1.

@@ -13,5 +13,6 @@ pub mod Complete
 pub mod Writing
 pub mod Label
 pub mod Follow
+pub mod Runs
 pub mod Bytes
 pub mod Put

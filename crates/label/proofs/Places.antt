@@ -1,18 +1,18 @@
 -- Which step the reader makes at a place, and what a text that leads on from there starts with.
 use Prim.Native.Nat.{ℕ, _+_, _*_, _<_, _≤_}
-use mathlib.Core.Bool.{Bool, true, false, _&&_}
+use mathlib.Core.Bool.{Bool, true, false, cond, _&&_}
 use mathlib.Core.List.{List, [], _∷_, _++_}
 use mathlib.Core.Logic.{_⊎_, inl, inr}
 use mathlib.Core.Path.{_≡_, refl, sym, _∙_, ap₂, subst}
 use native.Mathlib.Omega.{arith}
-use lib.Dec.{eqb}
+use lib.Dec.{eqb, ltb}
 use lib.ListN.{getD, length}
 use borrow.Author.Tests.{lt-ltb, le-ltb, eqb-true}
 use Rattle.label.specs.declared.Recipe.{Recipe}
 use Rattle.label.specs.declared.reader.Progress.{Progress}
 use Rattle.label.specs.declared.reader.Step.{Step}
 use Rattle.label.specs.declared.reader.Step.the-variants.{On, Stop}
-use Rattle.label.specs.Reader.{hexValue, decimalValue, form, next, nextSeed}
+use Rattle.label.specs.Reader.{hexValue, decimalValue, form, next, nextSeed, nextN}
 use Rattle.label.proofs.Moved.{
   state,
   isFixed,
@@ -35,6 +35,19 @@ use Rattle.label.proofs.Leads.{Leads, leads-back, leads-stop}
 pub seed-place : (s : Progress) (b : ℕ) → 9 ≤ s .at → s .at < 25 → next s b ≡ nextSeed s b
 unfolding next
 seed-place s b l u = rw (le-ltb (s .at) 9 l, lt-ltb (s .at) 25 u)
+
+-- past the head only n is left, and then nothing
+pub after-head : (s : Progress) (b : ℕ) → 33 ≤ s .at → next s b ≡ cond (ltb (s .at) 34) (nextN s b) Stop
+unfolding next
+after-head s b h =
+    rw (
+      le-ltb (s .at) 9 (omega arith),
+      le-ltb (s .at) 25 (omega arith),
+      le-ltb (s .at) 28 (omega arith),
+      le-ltb (s .at) 29 (omega arith),
+      le-ltb (s .at) 30 (omega arith),
+      le-ltb (s .at) 33 h,
+    )
 
 -- no text that leads on from a place before the end is empty
 pub not-empty : {A : Type 0} (s : Progress) (r : Recipe) → s .at < 34 → Leads s [] r → A

@@ -1,9 +1,10 @@
 -- How the reader goes, a byte at a time, for its inner functions. The promise of `read_label` is in Reading.antt and knows nothing of this.
-use Prim.Native.Nat.{ℕ, suc, _+_, _-_, _*_, _^_, _<_, _≤_, min}
-use mathlib.Core.Bool.{cond}
+use Prim.Native.Nat.{ℕ, zero, suc, _+_, _-_, _*_, _^_, _<_, _≤_, min}
+use mathlib.Core.Bool.{Bool, true, cond, _&&_, _||_}
 use mathlib.Core.List.{List, [], _∷_, _++_}
 use lib.Dec.{eqb, ltb}
-use lib.ListN.{getD, replicate}
+use mathlib.Core.Path.{_≡_}
+use lib.ListN.{length, drop, getD, replicate}
 use Rattle.answer.specs.declared.Answer.the-variants.{Accepted, Label}
 use Rattle.label.specs.Label.{line, versionText, seedText, mText, nText}
 use Rattle.label.specs.declared.Reading.{Reading}
@@ -80,3 +81,27 @@ onward f r Stop = r
 unfoldable pub readFrom : Progress → ℕ → List ℕ → Reading
 readFrom s i [] = endedAt s i
 readFrom s i (b ∷ t) = onward (λ q. readFrom q (suc i) t) (refusedAt i) (next s b)
+
+-- a reading has come to a state, whose place is the number of bytes read: what is left gives the whole reading
+pub record Reached (text : List ℕ) (s : Progress) : Type 0 where
+  pub within : s .at ≤ length text
+  pub fits : Fits s
+  pub rest : readFrom (record { at = 0; seed = 0; m = 0; n = 0 }) 0 text ≡ readFrom s (s .at) (drop (s .at) text)
+
+-- a test holds of every number below n
+unfoldable pub every : (ℕ → Bool) → ℕ → Bool
+every f zero = true
+every f (suc k) = every f k && f k
+
+-- a text has the form's byte at a place, or the form has a dot there
+abbrev pub formedAt : List ℕ → ℕ → Bool
+formedAt text at = eqb (getD form at 0) 46 || eqb (getD text at 0) (getD form at 0)
+
+-- seed's digit k is one
+abbrev pub hexAt : List ℕ → ℕ → Bool
+hexAt text k = ltb (hexValue (getD text (9 + k) 0)) 16
+
+-- the number that seed's first k digits make
+unfoldable pub seedTo : List ℕ → ℕ → ℕ
+seedTo text zero = 0
+seedTo text (suc k) = 16 * seedTo text k + hexValue (getD text (9 + k) 0)

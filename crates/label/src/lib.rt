@@ -1,5 +1,6 @@
 // Recipes and their labels: document 01, "Draws, recipe, label".
 mod digit;
+mod head;
 mod reader;
 mod writer;
 

@@ -1,7 +1,8 @@
-// The label reader: one pass, byte by byte, that stops at the first byte no valid label has there.
+// The label reader: a valid head at once (head.rt), the rest byte by byte, up to the first byte that no valid label has there.
 use crate::Reading;
 use crate::Recipe;
 use crate::digit;
+use crate::head;
 use answer::Answer;
 ghost use mathlib.Core.Path.{_≡_};
 ghost use Prim.Native.Nat.{_^_, _≤_, _<_};
@@ -136,12 +137,18 @@ fn n_digit(s: Progress, byte: u8) -> Step
     Step::Stop
 }
 
-// One byte on. Each kind of place has its function.
+// One byte on. Each kind of place has its function; n's test comes first, since a valid label comes here with its n alone.
 fn advance(s: Progress, byte: u8) -> Step
     requires { ⌜ Fits s ⌝ }
     ensures { λ r. ⌜ r ≡ next s byte ⌝ }
 {
     let at = s.at;
+    if 34 <= at {
+        return Step::Stop; // nothing follows the last LF
+    }
+    if 33 <= at {
+        return n_digit(s, byte);
+    }
     if at < 9 {
         return fixed(s, byte);
     }
@@ -157,13 +164,7 @@ fn advance(s: Progress, byte: u8) -> Step
     if at < 30 {
         return m_second(s, byte);
     }
-    if at < 33 {
-        return fixed(s, byte);
-    }
-    if at < 34 {
-        return n_digit(s, byte);
-    }
-    Step::Stop // nothing follows the last LF
+    fixed(s, byte)
 }
 
 // A refused text reads as zeros.
@@ -201,13 +202,8 @@ fn ended(s: Progress, place: u32) -> Reading
 pub fn read_label(text: &[u8]) -> Reading
     ensures { λ r. ⌜ Reads (now (text .entry)) r ⌝ }
 {
-    let mut s = Progress {
-        at: 0,
-        seed: 0,
-        m: 0,
-        n: 0,
-    };
-    let mut i = 0;
+    let mut s = head::before_n(text);
+    let mut i = s.at as usize;
     while i < text.len() {
         match advance(s, text[i]) {
             Step::On(next) => {

@@ -1,4 +1,5 @@
 // One walk over a part: the first word at or above p, the first malformed instruction.
+use form::Instruction;
 use form::instruction_at;
 use form::well_formed;
 use word::word_at;
@@ -7,6 +8,7 @@ ghost use mathlib.Core.List.{[]};
 ghost use Prim.Native.Nat.{_+_, _-_, _*_, _/_, _≤_, _<_};
 ghost use lib.ListN.{length};
 ghost use Rattle.word.specs.Bytes.{wordAt};
+ghost use Rattle.form.specs.Instruction.{instructionAt};
 ghost use Rattle.judged.specs.First.{first};
 ghost use Rattle.judged.specs.Judged.{isWord, firstWord, firstMalformed};
 ghost use Rattle.rules.specs.Sizes.{given};
@@ -80,6 +82,15 @@ pub fn first_word(bytes: &[u8]) -> usize
     i
 }
 
+// Instruction i, which is there: it is read from its own 48 bytes with no test.
+fn instruction(program: &[u8], i: usize) -> Instruction
+    requires { ⌜ 48 * i + 48 ≤ length (now program) ⌝ }
+    ensures { λ r. ⌜ r ≡ instructionAt (now (program .entry)) (48 * i) ⌝ }
+{
+    let at = 48 * i;
+    instruction_at(&program[at..at + 48], 0)
+}
+
 // The first malformed instruction; their number where there is none.
 pub fn first_malformed(program: &[u8]) -> usize
     ensures { λ r. ⌜ r ≡ firstMalformed (given (now (program .entry)) []) ⌝ }
@@ -87,7 +98,7 @@ pub fn first_malformed(program: &[u8]) -> usize
     let n = program.len() / 48;
     let mut i = 0;
     while i < n {
-        if !well_formed(instruction_at(program, 48 * i)) {
+        if !well_formed(instruction(program, i)) {
             return i;
         }
         i += 1;

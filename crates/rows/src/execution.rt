@@ -23,29 +23,33 @@ fn first_short(s: &[u8]) -> Exec
     }
 }
 
-fn first_row(s: &[u8]) -> Exec
-    ensures { λ r. ⌜ r ≡ execAt (now (s .entry)) 0 ⌝ }
+// The row where bytes of it may be past the end.
+fn exec_near_end(s: &[u8], at: usize) -> Exec
+    ensures { λ r. ⌜ r ≡ execAt (now (s .entry)) at ⌝ }
 {
-    if s.len() < 32 {
-        return first_short(s);
-    }
-    Exec {
-        pc: word_inside(s, 0),
-        fp: word_inside(s, 4),
-        addrA: word_inside(s, 8),
-        addrB: word_inside(s, 12),
-        addrC: word_inside(s, 16),
-        valueA: word_inside(s, 20),
-        valueB: word_inside(s, 24),
-        valueC: word_inside(s, 28),
-    }
+    first_short(rest(s, at))
 }
 
-// The execution row that starts at a byte; bytes past the end count as 0.
+// The execution row that starts at a byte; bytes past the end count as 0. Of a part of 32 bytes no test is left once it is compiled.
 pub fn exec_row(s: &[u8], at: usize) -> Exec
     ensures { λ r. ⌜ r ≡ execAt (now (s .entry)) at ⌝ }
 {
-    first_row(rest(s, at))
+    if s.len() < 32 {
+        return exec_near_end(s, at);
+    }
+    if s.len() - 32 < at {
+        return exec_near_end(s, at);
+    }
+    Exec {
+        pc: word_inside(s, at),
+        fp: word_inside(s, at + 4),
+        addrA: word_inside(s, at + 8),
+        addrB: word_inside(s, at + 12),
+        addrC: word_inside(s, at + 16),
+        valueA: word_inside(s, at + 20),
+        valueB: word_inside(s, at + 24),
+        valueC: word_inside(s, at + 28),
+    }
 }
 
 // The row's 32 bytes; a buffer of another length is left as it is.

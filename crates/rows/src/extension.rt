@@ -58,35 +58,39 @@ fn five_inside(s: &[u8], at: usize) -> [u32; 5]
     ]
 }
 
-fn first_row(s: &[u8]) -> Ext
-    ensures { λ r. ⌜ r ≡ extAt (now (s .entry)) 0 ⌝ }
+// The row where bytes of it may be past the end.
+fn ext_near_end(s: &[u8], at: usize) -> Ext
+    ensures { λ r. ⌜ r ≡ extAt (now (s .entry)) at ⌝ }
 {
-    if s.len() < 120 {
-        return first_short(s);
-    }
-    Ext {
-        start: word_inside(s, 0),
-        add: word_inside(s, 4),
-        mul: word_inside(s, 8),
-        peq: word_inside(s, 12),
-        len: word_inside(s, 16),
-        idxA: word_inside(s, 20),
-        idxB: word_inside(s, 24),
-        idxR: word_inside(s, 28),
-        be: word_inside(s, 32),
-        base: word_inside(s, 36),
-        vA: five_inside(s, 40),
-        vB: five_inside(s, 60),
-        comp: five_inside(s, 80),
-        res: five_inside(s, 100),
-    }
+    first_short(rest(s, at))
 }
 
-// The extension row that starts at a byte; bytes past the end count as 0.
+// The extension row that starts at a byte; bytes past the end count as 0. Of a part of 120 bytes no test is left once it is compiled.
 pub fn ext_row(s: &[u8], at: usize) -> Ext
     ensures { λ r. ⌜ r ≡ extAt (now (s .entry)) at ⌝ }
 {
-    first_row(rest(s, at))
+    if s.len() < 120 {
+        return ext_near_end(s, at);
+    }
+    if s.len() - 120 < at {
+        return ext_near_end(s, at);
+    }
+    Ext {
+        start: word_inside(s, at),
+        add: word_inside(s, at + 4),
+        mul: word_inside(s, at + 8),
+        peq: word_inside(s, at + 12),
+        len: word_inside(s, at + 16),
+        idxA: word_inside(s, at + 20),
+        idxB: word_inside(s, at + 24),
+        idxR: word_inside(s, at + 28),
+        be: word_inside(s, at + 32),
+        base: word_inside(s, at + 36),
+        vA: five_inside(s, at + 40),
+        vB: five_inside(s, at + 60),
+        comp: five_inside(s, at + 80),
+        res: five_inside(s, at + 100),
+    }
 }
 
 // Five words from a byte on.

@@ -22,7 +22,7 @@ use Rattle.word.proofs.WordLaws.{
 }
 use Rattle.word.proofs.Lists.{_∷≡_}
 
-zero-word : IsWord 0
+pub zero-word : IsWord 0
 zero-word = lit< tt
 
 -- five words are an element
@@ -82,7 +82,7 @@ element-sum-zero a ea =
     (sum-zero _ (w 0) ∷≡ sum-zero _ (w 1) ∷≡ sum-zero _ (w 2) ∷≡ sum-zero _ (w 3) ∷≡ sum-zero _ (w 4) ∷≡ refl)
     ∙ sym (its-words a (ea .five-long))
 
-zero-sum : (x : ℕ) → IsWord x → 0 +ₚ x ≡ x
+pub zero-sum : (x : ℕ) → IsWord x → 0 +ₚ x ≡ x
 zero-sum x w = sum-comm 0 x ∙ sum-zero x w
 
 pub element-product-one : (a : List ℕ) → IsElement a → a *ₑ element 1 ≡ a
@@ -92,7 +92,7 @@ element-product-one a ea =
     let z = zero-word in
     simp (product-zero, product-one, sum-zero, zero-sum, difference-zero, w) (sym (its-words a (ea .five-long)))
 
-sum-left-comm : (x y z : ℕ) → x +ₚ (y +ₚ z) ≡ y +ₚ (x +ₚ z)
+pub sum-left-comm : (x y z : ℕ) → x +ₚ (y +ₚ z) ≡ y +ₚ (x +ₚ z)
 sum-left-comm x y z = sym (sum-assoc x y z) ∙ ap (λ (s : ℕ). s +ₚ z) (sum-comm x y) ∙ sum-assoc y x z
 
 -- each coefficient is the same products, summed from the other end

@@ -2,3 +2,4 @@ pub mod Word
 pub mod Prime
 pub mod Bytes
 pub mod Element
+pub mod Words

@@ -46,13 +46,11 @@ pub fn scale(x: u32, a: [u32; 5]) -> [u32; 5]
     ]
 }
 
-// peq: a·b + (1 - a)(1 - b)
+// peq: a·b + (1 - a)(1 - b) is 2·a·b + 1 - (a + b), by one product.
 pub fn peq(a: [u32; 5], b: [u32; 5]) -> [u32; 5]
     ensures { λ r. ⌜ r ≡ peqₑ a b ⌝ }
 {
     let one: [u32; 5] = [1, 0, 0, 0, 0];
-    sum(
-        product(a, b),
-        product(difference(one, a), difference(one, b)),
-    )
+    let c = product(a, b);
+    difference(sum(sum(c, c), one), sum(a, b))
 }

@@ -1,4 +1,6 @@
 // The product of two elements: nine coefficients, of which four are folded back by X^5 = 1 - X^2.
+use crate::direct::direct;
+use crate::direct::words;
 ghost use mathlib.Core.Path.{_≡_};
 ghost use Rattle.word.specs.Word.{_+ₚ_, _*ₚ_};
 ghost use Rattle.word.specs.Element.{_*ₑ_, nine, folded};
@@ -52,5 +54,8 @@ fn folds(d: [u32; 9]) -> [u32; 5]
 pub fn product(a: [u32; 5], b: [u32; 5]) -> [u32; 5]
     ensures { λ r. ⌜ r ≡ a *ₑ b ⌝ }
 {
+    if words(a) & words(b) {
+        return direct(a, b);
+    }
     folds(coefficients(a, b))
 }

@@ -1,5 +1,6 @@
 // Words modulo p, and extension elements of five words.
 mod bytes;
+mod direct;
 mod element;
 mod fold;
 

@@ -12,7 +12,7 @@ returns-2 : tie.Need-returns-2
 returns-2 c = rw (c .if2 .taken, difference-self, product-zero)
 
 returns-3 : tie.Need-returns-3
-returns-3 c = cc
+returns-3 c = rw (c .mul .ensures, c .before .sub .ensures)
 
 pub gated-spec : {M : Type 1} → statement M
 gated-spec = tie.close (tie.spec returns returns-2 (λ c κs. search needs) (λ c κs. search needs) returns-3)

@@ -13,15 +13,18 @@ use Rattle.checks.proofs.accumulation.accumulates.Tie as tie
 
 returns : tie.Need-returns
 returns c =
-    let start = c .before .before .before .before .before .before .before .before in
-    let first-of = c .before .before .before .before .first-of in
-    let x = start .args .x in
+    let after = c .before .before .before .before in
+    let args = after .before .before .before .before .args in
+    let x = args .x in
     let off = each (eqb (x .add) 0) (eqb (x .mul) 0 ∷ eqb (x .peq) 0 ∷ []) (c .if1 .taken) in
-    let rule-9 : first-of .result ≡ either (zeroElement? (resultOf (x .start) (x .comp) (x .res))) (start .args .rest) 9 = cc in
-    rule-9 ∙ no-operation x (start .args .y) _ _ _ (eqb-true _ _ (off .0)) (eqb-true _ _ (off .1 .0)) (eqb-true _ _ (off .1 .1))
+    let rule-9 : after .first-of .result ≡ either (zeroElement? (resultOf (x .start) (x .comp) (x .res))) (args .rest) 9 =
+    rw (after .first-of .ensures, after .before .gated-elements .ensures) in
+    rule-9 ∙ no-operation x (args .y) _ _ _ (eqb-true _ _ (off .0)) (eqb-true _ _ (off .1 .0)) (eqb-true _ _ (off .1 .1))
 
 returns-2 : tie.Need-returns-2
-returns-2 c = cc
+returns-2 c =
+    let after = c .before .before .before .before .before in
+    rw (c .operates .ensures, after .first-of .ensures, after .before .gated-elements .ensures)
 
 pub accumulates-spec : {M : Type 1} → statement M
 accumulates-spec =

@@ -24,7 +24,7 @@ returns-2 c =
     base-word x (eqb-true (x .be) 1 (t .0)) (ltb-true (x .base) p (t .1))
 
 returns-3 : tie.Need-returns-3
-returns-3 c = cc
+returns-3 c = rw (c .sum .ensures, c .before .scale2 .ensures, c .before .before .sub .ensures, c .before .before .before .scale .ensures)
 
 pub selected-element-spec : {M : Type 1} → statement M
 selected-element-spec =

@@ -17,7 +17,7 @@ returns c =
     own-tail y (eqb-true (y .start) 0 (t .0)) (sym (is-element .ensures) ∙ t .1)
 
 returns-2 : tie.Need-returns-2
-returns-2 c = cc
+returns-2 c = rw (c .scale .ensures, c .before .sub .ensures)
 
 pub tail-of-spec : {M : Type 1} → statement M
 tail-of-spec =

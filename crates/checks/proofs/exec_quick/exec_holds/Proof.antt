@@ -1,9 +1,6 @@
--- Selected values that are words are those of the rules, and each group is passed.
+-- Selected values that are words are those of the rules, their addresses too, and each group is passed.
 use borrow.Author.Needs.{needs}
 use borrow.Author.Tests.{not-false, leb-false}
-use mathlib.Core.Bool.{false, _||_}
-use mathlib.Core.Path.{_≡_}
-use native.Mathlib.Omega.{arith}
 use lib.Dec.{leb}
 use Rattle.word.specs.Word.{p}
 use Rattle.checks.proofs.Quick.{never, none-of-three}
@@ -11,10 +8,9 @@ use Rattle.checks.proofs.QuickExec.{all-hold}
 use Rattle.checks.proofs.exec_quick.exec_holds.Statement.{statement}
 use Rattle.checks.proofs.exec_quick.exec_holds.Tie as tie
 
-returns-5 : tie.Need-returns-5
-returns-5 c e =
-    let else4 = c .before .before in
-    let else3 = else4 .before .before in
+returns-4 : tie.Need-returns-4
+returns-4 c e =
+    let else3 = c .before .before in
     let else2 = else3 .before .before in
     let else1 = else2 .before .before in
     let third = else1 .before in
@@ -30,8 +26,7 @@ returns-5 c e =
     (picked3 .ensures (leb-false _ _ (words .2)))
     (c .before .jump-taken .ensures)
     (else2 .before .found .ensures (not-false _ (else2 .if2 .left)))
-    (else3 .before .all-placed .ensures (not-false _ (else3 .if3 .left)))
-    (else4 .before .operated .ensures (not-false _ (else4 .if4 .left)))
+    (else3 .before .operated .ensures (not-false _ (else3 .if3 .left)))
     (c .moved .ensures e)
 
 pub exec-holds-spec : {M : Type 1} → statement M
@@ -47,7 +42,5 @@ exec-holds-spec =
     (λ c κs. search needs)
     (λ c. never)
     (λ c κs. search needs)
-    (λ c. never)
     (λ c κs. search needs)
-    (λ c κs. search needs)
-    returns-5)
+    returns-4)

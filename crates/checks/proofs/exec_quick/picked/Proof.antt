@@ -1,36 +1,39 @@
--- Flags that say which value it is leave that value; what is no word shows nothing.
+-- By the flags; what is no word shows nothing.
 use borrow.Author.Needs.{needs}
-use mathlib.Core.Path.{sym, _∙_}
-use Rattle.word.proofs.WordLaws.{sum-zero}
-use Rattle.checks.proofs.Shut.{looked-up, immediate}
-use Rattle.checks.proofs.QuickExec.{framed}
+use mathlib.Core.Path.{_∙_}
+use Rattle.checks.proofs.Quick.{no-word}
+use Rattle.checks.proofs.QuickExec.{cell, at-once, in-frame}
 use Rattle.checks.proofs.exec_quick.picked.Statement.{statement}
 use Rattle.checks.proofs.exec_quick.picked.Tie as tie
 
 returns : tie.Need-returns
 returns c w =
-    let args = c .before .before .args in
-    rw (c .before .if1 .taken, c .if2 .taken) (sym (sum-zero (args .value) w) ∙ looked-up (args .operand) (args .value) (args .fp))
+    let then2 = c .before .before in
+    let args = then2 .before .before .args in
+    rw (then2 .before .if1 .taken, then2 .if2 .taken)
+    (cell (args .operand) (args .addr) (args .value) (args .fp) w (c .if3 .taken ∙ c .before .add .ensures))
 
-returns-2 : tie.Need-returns-2
-returns-2 c w =
+returns-3 : tie.Need-returns-3
+returns-3 c w =
     let args = c .before .before .before .args in
-    rw (c .before .before .if1 .taken, c .if3 .taken)
-    (sym (sum-zero (args .operand) w) ∙ immediate (args .operand) (args .value) (args .fp))
+    rw (c .before .before .if1 .taken, c .if4 .taken) (at-once (args .operand) (args .addr) (args .value) (args .fp) w)
 
-returns-4 : tie.Need-returns-4
-returns-4 c w =
+returns-5 : tie.Need-returns-5
+returns-5 c w =
     let args = c .before .before .before .before .args in
-    rw (c .before .before .if4 .taken, c .before .if5 .taken) (c .add .ensures ∙ framed (args .operand) (args .value) (args .fp))
+    rw (c .before .before .if5 .taken, c .before .if6 .taken, c .add2 .ensures)
+    (in-frame (args .operand) (args .addr) (args .value) (args .fp))
 
 pub picked-spec : {M : Type 1} → statement M
 picked-spec =
     tie.close
     (tie.spec
-    returns
-    returns-2
-    (λ c. search needs)
     (λ c κs. search needs)
-    returns-4
-    (λ c. search needs)
-    (λ c. search needs))
+    returns
+    (λ c. no-word)
+    returns-3
+    (λ c. no-word)
+    (λ c κs. search needs)
+    returns-5
+    (λ c. no-word)
+    (λ c. no-word))

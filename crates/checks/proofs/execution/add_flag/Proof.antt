@@ -14,7 +14,7 @@ unfolding _-ₚ_ _*ₚ_
 returns-2 c = rw (c .if2 .taken) refl
 
 returns-3 : tie.Need-returns-3
-returns-3 c = cc
+returns-3 c = rw (c .mul .ensures, c .before .sub .ensures)
 
 pub add-flag-spec : {M : Type 1} → statement M
 add-flag-spec = tie.close (tie.spec returns returns-2 (λ c κs. search needs) (λ c κs. search needs) returns-3)

@@ -18,7 +18,7 @@ unfolding _-ₚ_ _*ₚ_
 returns-3 c = rw (c .if3 .taken) refl
 
 returns-4 : tie.Need-returns-4
-returns-4 c = cc
+returns-4 c = rw (c .mul2 .ensures, c .before .mul .ensures, c .before .before .sub .ensures)
 
 pub deref-flag-spec : {M : Type 1} → statement M
 deref-flag-spec =

@@ -9,7 +9,7 @@ unfolding _-ₚ_
 returns c = rw (c .before .if1 .taken, c .if2 .taken)
 
 returns-2 : tie.Need-returns-2
-returns-2 c = cc
+returns-2 c = rw (c .sub2 .ensures, c .before .sub .ensures)
 
 pub reads-cell-spec : {M : Type 1} → statement M
 reads-cell-spec = tie.close (tie.spec returns (λ c κs. search needs) (λ c κs. search needs) returns-2)

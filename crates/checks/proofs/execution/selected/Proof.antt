@@ -20,7 +20,17 @@ returns-2 c =
     rw (if1 .taken, if3 .taken) (c .add2 .ensures ∙ immediate (start .args .operand) (start .args .value) (start .args .fp))
 
 returns-3 : tie.Need-returns-3
-returns-3 c = cc
+returns-3 c =
+    rw (
+      c .add5 .ensures,
+      c .before .mul3 .ensures,
+      c .before .before .add4 .ensures,
+      c .before .before .before .add3 .ensures,
+      c .before .before .before .before .mul2 .ensures,
+      c .before .before .before .before .before .mul .ensures,
+      c .before .before .before .before .before .before .sub2 .ensures,
+      c .before .before .before .before .before .before .before .sub .ensures,
+    )
 
 pub selected-spec : {M : Type 1} → statement M
 selected-spec =

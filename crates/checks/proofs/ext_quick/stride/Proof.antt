@@ -14,7 +14,7 @@ unfolding _+ₚ_ _-ₚ_ _*ₚ_
 returns-2 c = rw (c .if2 .taken) refl
 
 returns-3 : tie.Need-returns-3
-returns-3 c = cc
+returns-3 c = rw (c .add .ensures, c .before .mul .ensures, c .before .before .sub .ensures)
 
 pub stride-spec : {M : Type 1} → statement M
 stride-spec =

@@ -1,11 +1,18 @@
--- Where the comparisons show that all other rules hold, rules 6 to 9 are left.
+-- Each call gives the definition's part.
 use borrow.Author.Needs.{needs}
-use mathlib.Core.Path.{sym, _∙_}
 use Rattle.checks.proofs.extension.ext_failing.Statement.{statement}
 use Rattle.checks.proofs.extension.ext_failing.Tie as tie
 
 returns : tie.Need-returns
-returns c = c .accumulates .ensures ∙ sym (c .before .before .others-hold .ensures (c .before .if1 .taken))
+returns c =
+    rw (
+      c .ext-lookups .ensures,
+      c .before .bits .ensures,
+      c .before .before .accumulates .ensures,
+      c .before .before .before .sames .ensures,
+      c .before .before .before .before .steps .ensures,
+      c .before .before .before .before .before .sub .ensures,
+    )
 
 pub ext-failing-spec : {M : Type 1} → statement M
 ext-failing-spec =
@@ -13,6 +20,8 @@ ext-failing-spec =
     (tie.spec
     (λ c κs. search needs)
     (λ c κs. search needs)
-    returns
     (λ c κs. search needs)
-    (λ c. search needs))
+    (λ c κs. search needs)
+    (λ c κs. search needs)
+    (λ c κs. search needs)
+    returns)

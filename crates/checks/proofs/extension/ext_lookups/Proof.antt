@@ -4,7 +4,17 @@ use Rattle.checks.proofs.extension.ext_lookups.Statement.{statement}
 use Rattle.checks.proofs.extension.ext_lookups.Tie as tie
 
 returns : tie.Need-returns
-returns c = cc
+returns c =
+    rw (
+      c .first-of4 .ensures,
+      c .before .first-of3 .ensures,
+      c .before .before .first-of2 .ensures,
+      c .before .before .before .first-of .ensures,
+      c .before .before .before .before .looks-up-five3 .ensures,
+      c .before .before .before .before .before .looks-up-five2 .ensures,
+      c .before .before .before .before .before .before .looks-up-five .ensures,
+      c .before .before .before .before .before .before .before .looks-up .ensures,
+    )
 
 pub ext-lookups-spec : {M : Type 1} → statement M
 ext-lookups-spec =

@@ -1,12 +1,13 @@
 -- The last address past the end is no cell; else the words read are the five cells'.
 use borrow.Author.Needs.{needs}
-use borrow.Author.Tests.{le-ltb}
-use Rattle.checks.proofs.Quick.{and-false, five-cells}
+use Rattle.checks.proofs.Quick.{no-five-cells, five-cells}
 use Rattle.checks.proofs.lookup.looks_up_five.Statement.{statement}
 use Rattle.checks.proofs.lookup.looks_up_five.Tie as tie
 
 returns : tie.Need-returns
-returns c = simp (le-ltb _ _ (c .if1 .taken), and-false)
+returns c =
+    let args = c .before .before .args in
+    no-five-cells (args .memory .now) (args .addr) (args .t3) (c .if1 .taken)
 
 returns-2 : tie.Need-returns-2
 returns-2 c =

@@ -1,5 +1,6 @@
--- Pushes and pulls that match in order leave no tuple unequal.
+-- Pushes and pulls that match, in order or in rounds, leave no tuple unequal.
 use mathlib.Core.List.{[]}
+use borrow.Author.Tests.{not-false}
 use Rattle.rules.specs.Sizes.{given, tables}
 use Rattle.judge.proofs.Balances.{all-equal}
 use borrow.Author.Needs.{needs}
@@ -12,5 +13,20 @@ returns c =
     let in-order = c .before .in-order in
     all-equal (given (start .args .program .now) []) (tables (start .args .exec .now) (start .args .ext .now)) (in-order .ensures (c .if1 .taken))
 
+returns-3 : tie.Need-returns-3
+returns-3 c =
+    let start = c .before .before .before .before .before .before .before in
+    let pairs-up = c .before .pairs-up in
+    all-equal (given (start .args .program .now) []) (tables (start .args .exec .now) (start .args .ext .now))
+    (pairs-up .ensures (not-false _ (c .if2 .left)))
+
 pub bus-answer-spec : {M : Type 1} → statement M
-bus-answer-spec = tie.close (tie.spec (λ c κs. search needs) returns (λ c κs. search needs) (λ c. search needs))
+bus-answer-spec =
+    tie.close
+    (tie.spec
+    (λ c κs. search needs)
+    returns
+    (λ c κs. search needs)
+    (λ c κs. search needs)
+    (λ c. search needs)
+    returns-3)

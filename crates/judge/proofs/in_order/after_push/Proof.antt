@@ -6,7 +6,8 @@ use native.Mathlib.Omega.{arith}
 use lib.Dec.{eqb}
 use Rattle.form.proofs.Cases.{each}
 use Rattle.rules.specs.Bus.{pushed, pulled, pulls}
-use Rattle.judge.proofs.Tuples.{no-push, one-push, same-tuple}
+use Rattle.paired.proofs.Tuples.{same-tuple}
+use Rattle.judge.proofs.Tuples.{no-push, one-push}
 use Rattle.judge.proofs.Orders.{passes-by, idles, matches}
 use borrow.Author.Needs.{needs}
 use Rattle.judge.proofs.in_order.after_push.Statement.{statement}

@@ -2,7 +2,7 @@
 use borrow.Author.Needs.{needs}
 use mathlib.Core.Path.{ap, _∙_}
 use Rattle.rules.specs.Bus.{sameTuple}
-use Rattle.judge.specs.Bus.{tupleOf}
+use Rattle.paired.specs.Slots.{tupleOf}
 use Rattle.judge.proofs.seek.holds.Statement.{statement}
 use Rattle.judge.proofs.seek.holds.Tie as tie
 

@@ -1,40 +1,63 @@
--- Each row passed has no rule that fails, and the walk stops at the first that has one.
+-- Each row passed has no rule that fails, by comparisons or by the polynomials, and the walk stops at the first that has one.
 use borrow.Author.Needs.{needs}
-use borrow.Author.Tests.{eq-eqb, ne-eqb}
-use mathlib.Core.Path.{_≡_, refl, sym, _∙_}
-use mathlib.Core.List.{[]}
-use Prim.Native.Nat.{_-_, _/_}
+use borrow.Author.Tests.{eq-eqb, ne-eqb, not-false, lt-ltb}
+use mathlib.Core.Logic.{⊎-elim}
+use mathlib.Core.Path.{_≡_, refl, sym, ap, _∙_}
+use mathlib.Core.List.{List, []}
+use Prim.Native.Nat.{ℕ, _+_, _-_, _*_, _/_, _<_}
 use native.Mathlib.Omega.{arith}
 use lib.ListN.{length}
-use Rattle.rules.specs.Given.{zero?}
+use Rattle.rows.specs.Rows.{extAt}
+use Rattle.rows.specs.declared.Ext.{Ext}
+use Rattle.rules.specs.Given.{zero?, next}
+use Rattle.rules.specs.Extension.{extRules}
+use Rattle.checks.specs.ExtParts.{extFails}
 use Rattle.judged.specs.Judged.{extFailing, firstExt}
 use Rattle.rules.specs.Sizes.{given, tables}
 use Rattle.parts.proofs.Walks.{Walk, begins, goes-past, finds, finds-none}
 use Rattle.judge.proofs.table.first_ext.Statement.{statement}
 use Rattle.judge.proofs.table.first_ext.Tie as tie
 
+-- the rules of the rows that are carried are the row's
+same-rules : (memory ext : List ℕ) (r : ℕ) (x y : Ext)
+    → x ≡ extAt ext (120 * r)
+    → y ≡ extAt ext (120 * next (length ext / 120) r)
+    → extFails memory x y ≡ extFailing (given [] memory) (tables [] ext) r
+unfolding extRules
+same-rules memory ext r x y ex ey = rw (ex, ey)
+
+-- the row after one, where there is one, is the row paired with it
+next-row : (ext : List ℕ) (n r : ℕ) (y : Ext) → y ≡ extAt ext (120 * next n r) → r + 1 < n → y ≡ extAt ext (120 * (r + 1))
+next-row ext n r y e h = rw (lt-ltb _ _ h) at e
+
 abbrev Inv-loop : tie.InvT-loop
-Inv-loop memory ext n r₀ r =
+Inv-loop memory ext n x₀ r₀ x r =
     (n ≡ length ext / 120)
     × Walk (λ s. zero? (extFailing (given [] memory) (tables [] ext) s)) (length ext / 120) (firstExt (given [] memory) (tables [] ext)) r
+    × (r < n → x ≡ extAt ext (120 * r))
 
 abbrev μ-loop : tie.MeasureT-loop
-μ-loop memory ext n r₀ r = n - r
+μ-loop memory ext n x₀ r₀ x r = n - r
 
 loop-holds : tie.Need-loop-holds Inv-loop μ-loop
-loop-holds c = (refl, begins _ _)
+loop-holds c = (refl, begins _ _, λ h. c .ext-row .ensures)
 
 returns : tie.Need-returns Inv-loop μ-loop
 returns c =
-    finds (c .before .before .before .loop .inv .1) (omega arith)
-    (ne-eqb _ _ (λ e. c .if1 .taken (c .before .ext-row-failing .ensures ∙ e)))
+    finds (c .before .before .before .before .before .before .before .loop .inv .1) (omega arith)
+    (ne-eqb _ _ (λ e. c .if2 .taken (c .before .ext-row-failing .ensures ∙ e)))
 
 loop-again : tie.Need-loop-again Inv-loop μ-loop
-loop-again c = (
-  refl,
-  goes-past (c .before .before .before .loop .inv .1) (omega arith)
-      (eq-eqb _ _ (sym (c .before .ext-row-failing .ensures) ∙ c .if1 .left)),
-)
+loop-again c =
+    let held = c .before .ext-holds in
+    let row = c .before .before .ext-at in
+    let paired = c .before .before .before .paired in
+    let loop = c .before .before .before .before .before .loop in
+    let args = c .before .before .before .before .before .before .before .before .before .args in
+    let ext = args .ext .now in
+    let y-is : row .result ≡ extAt ext (120 * next (length ext / 120) (loop .r)) = row .ensures ∙ ap (λ (k : ℕ). extAt ext (120 * k)) (paired .ensures .0) in
+    let passes = ⊎-elim (λ w. sym (w .1 .ensures) ∙ w .2 .left) (λ w. sym (same-rules (args .memory .now) ext (loop .r) (loop .x) (row .result) (loop .inv .2 (omega arith)) y-is) ∙ held .ensures (not-false _ (w .left))) (c .if1 .came) in
+    (refl, goes-past (loop .inv .1) (omega arith) (eq-eqb _ _ passes), λ h. next-row ext (length ext / 120) (loop .r) (row .result) y-is h)
 
 returns-2 : tie.Need-returns-2 Inv-loop μ-loop
 returns-2 c = finds-none (c .before .loop .inv .1) (c .loop-test .left)
@@ -45,7 +68,11 @@ first-ext-spec =
     (tie.spec
     Inv-loop
     μ-loop
+    (λ c κs. search needs)
     loop-holds
+    (λ c κs. search needs)
+    (λ c κs. search needs)
+    (λ c κs. search needs)
     (λ c κs. search needs)
     returns
     (λ c. search needs)

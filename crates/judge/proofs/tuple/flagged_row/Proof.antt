@@ -4,7 +4,7 @@ use Rattle.judge.proofs.tuple.flagged_row.Statement.{statement}
 use Rattle.judge.proofs.tuple.flagged_row.Tie as tie
 
 returns : tie.Need-returns
-returns c = (c .ext-row .ensures, rw (c .ext-row .ensures) (c .before .before .pre .0 (c .before .before .args .k) (c .before .before .pre .1)))
+returns c = (c .ext-at .ensures, rw (c .ext-at .ensures) (c .before .before .pre .0 (c .before .before .args .k) (c .before .before .pre .1)))
 
 pub flagged-row-spec : {M : Type 1} → statement M
-flagged-row-spec = tie.close (tie.spec (λ c. search needs) (λ c κs. search needs) returns)
+flagged-row-spec = tie.close (tie.spec (λ c κs. search needs) returns)

@@ -1,7 +1,6 @@
 -- Of the five kinds only the extension has no opcode word.
 use borrow.Author.Needs.{needs}
 use mathlib.Core.List.{[]}
-use Rattle.form.specs.Instruction.{instructionAt}
 use Rattle.rows.specs.Rows.{execAt}
 use Rattle.rules.specs.Bus.{instructionOf}
 use Rattle.rules.specs.Sizes.{given, tables}
@@ -10,12 +9,11 @@ use Rattle.judge.proofs.tuple.pushing.Statement.{statement}
 use Rattle.judge.proofs.tuple.pushing.Tie as tie
 
 returns : tie.Need-returns
-unfolding instructionAt execAt
+unfolding execAt
 returns c =
-    let start = c .before .before .before .before .before .before in
+    let start = c .before .before .before .before .before .before .before in
     let i = instructionOf (given (start .args .program .now) []) (tables (start .args .exec .now) []) (start .args .r) in
-    rw (c .word-at4 .ensures, c .before .word-at3 .ensures, c .before .before .word-at2 .ensures, c .before .before .before .word-at .ensures)
-    (pushes-once i (start .pre .0 (start .args .r) (start .pre .1)))
+    rw (c .before .before .before .instruction-at .ensures, c .before .before .before .before .word-at .ensures) (pushes-once i (start .pre .0 (start .args .r) (start .pre .1)))
 
 pub pushing-spec : {M : Type 1} → statement M
 pushing-spec =
@@ -24,11 +22,6 @@ pushing-spec =
     (λ c. search needs)
     (λ c κs. search needs)
     (λ c. search needs)
-    (λ c. search needs)
-    (λ c. search needs)
-    (λ c κs. search needs)
-    (λ c. search needs)
-    (λ c κs. search needs)
     (λ c. search needs)
     (λ c κs. search needs)
     returns)

@@ -6,8 +6,8 @@ use borrow.Author.Needs.{needs}
 use Rattle.label.proofs.digit.form.Statement.{statement}
 use Rattle.label.proofs.digit.form.Tie as tie
 
-element-copy-out-result : tie.Need-element-copy-out-result
-element-copy-out-result c = search needs
+array-read-result : tie.Need-array-read-result
+array-read-result c = search needs
 
 returns : tie.Need-returns
 returns c = search needs
@@ -16,4 +16,4 @@ returns-2 : tie.Need-returns-2
 returns-2 c = sym (List·getD-eq-default form 0 (c .if1 .left))
 
 pub form-spec : {M : Type 1} → statement M
-form-spec = tie.close (tie.spec element-copy-out-result returns returns-2)
+form-spec = tie.close (tie.spec array-read-result returns returns-2)

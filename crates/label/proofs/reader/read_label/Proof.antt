@@ -1,5 +1,5 @@
--- `reader::read_label` meets its contract. The invariant: what is left of the text gives the whole reading, and the numbers fit. The
--- measure is what is left of the text. That the reading keeps the promise is `reading-holds`.
+-- `reader::read_label` meets its contract. It starts where `before_n` has come to. The invariant: what is left of the text gives the
+-- whole reading, and the numbers fit. The measure is what is left of the text. That the reading keeps the promise is `reading-holds`.
 use Prim.Native.Nat.{_+_, _-_, _≤_}
 use mathlib.Core.Path.{_≡_, sym, _∙_, subst}
 use borrow.Author.Needs.{needs}
@@ -21,6 +21,12 @@ Inv-loop text s₀ i₀ s i =
 
 abbrev μ-loop : tie.MeasureT-loop
 μ-loop text s₀ i₀ s i = length text - i
+
+before-n-requires : tie.Need-before-n-requires Inv-loop μ-loop
+before-n-requires c κs = search needs
+
+cast-i : tie.Need-cast-i Inv-loop μ-loop
+cast-i c = search needs
 
 loop-holds : tie.Need-loop-holds Inv-loop μ-loop
 loop-holds c = search needs
@@ -45,7 +51,7 @@ refused-requires c κs = search needs
 
 returns : tie.Need-returns Inv-loop μ-loop
 returns c =
-    let text = c .before .before .before .before .before .before .before .before .args .text .now in
+    let text = c .before .before .before .before .before .before .before .before .before .before .args .text .now in
     let l = c .before .before .before .before .before .before .loop in
     let e : next (l .s) (getD text (l .i) 0) ≡ Stop = cc in
     subst (Reads text)
@@ -60,7 +66,7 @@ loop-less c = search needs
 
 loop-again : tie.Need-loop-again Inv-loop μ-loop
 loop-again c =
-    let text = c .before .before .before .before .before .before .before .before .args .text .now in
+    let text = c .before .before .before .before .before .before .before .before .before .before .args .text .now in
     let l = c .before .before .before .before .before .before .loop in
     let q = c .before .next .given .0 .0 in
     let e : next (l .s) (getD text (l .i) 0) ≡ On q = cc in (
@@ -78,7 +84,7 @@ ended-requires c κs = search needs
 
 returns-2 : tie.Need-returns-2 Inv-loop μ-loop
 returns-2 c =
-    let text = c .before .before .before .before .args .text .now in
+    let text = c .before .before .before .before .before .before .args .text .now in
     let l = c .before .before .loop in
     subst (Reads text)
     (l .inv .3 ∙ (ends text (l .s) (l .i) (c .before .loop-test .left) ∙ sym (c .ended .ensures)))
@@ -90,6 +96,8 @@ read-label-spec =
     (tie.spec
     Inv-loop
     μ-loop
+    before-n-requires
+    cast-i
     loop-holds
     shared-slice-read-advance
     advance-requires

@@ -27,12 +27,12 @@ loop-holds c = (refl, begins _ _)
 
 returns : tie.Need-returns Inv-loop μ-loop
 returns c =
-    let well = rw (c .before .before .instruction-at .ensures) at (c .before .well-formed .ensures) in
+    let well = rw (c .before .before .instruction .ensures) at (c .before .well-formed .ensures) in
     finds (c .before .before .before .before .loop .inv .1) (omega arith) (sym well ∙ not-true _ (c .if1 .taken))
 
 loop-again : tie.Need-loop-again Inv-loop μ-loop
 loop-again c =
-    let well = rw (c .before .before .instruction-at .ensures) at (c .before .well-formed .ensures) in (
+    let well = rw (c .before .before .instruction .ensures) at (c .before .well-formed .ensures) in (
       refl,
       goes-past (c .before .before .before .before .loop .inv .1) (omega arith) (sym well ∙ not-false _ (c .if1 .left)),
     )
@@ -47,7 +47,6 @@ first-malformed-spec =
     Inv-loop
     μ-loop
     loop-holds
-    (λ c. search needs)
     (λ c κs. search needs)
     (λ c κs. search needs)
     returns

@@ -1,12 +1,61 @@
--- A row at a byte is the first row of what is left from there.
+-- One test covers the row; each column is the word, each element the five words that its call read.
 use borrow.Author.Needs.{needs}
-use mathlib.Core.Path.{sym, _∙_}
-use Rattle.rows.proofs.Reading.{ext-drop}
+use Rattle.rows.proofs.Reading.{ext-made}
 use Rattle.rows.proofs.extension.ext_row.Statement.{statement}
 use Rattle.rows.proofs.extension.ext_row.Tie as tie
 
-returns : tie.Need-returns
-returns c = rw (c .before .rest .ensures) at (c .first-row .ensures) ∙ sym (ext-drop _ _)
+returns-3 : tie.Need-returns-3
+returns-3 c =
+    ext-made (c .before .before .before .before .before .before .before .before .before .before .before .before .before .before .before .before .before .args .s .now) (c .before .before .before .before .before .before .before .before .before .before .before .before .before .before .before .before .before .args .at)
+    (c .before .before .before .before .before .before .before .before .before .before .before .before .before .word-inside .ensures)
+    (c .before .before .before .before .before .before .before .before .before .before .before .before .word-inside2 .ensures)
+    (c .before .before .before .before .before .before .before .before .before .before .before .word-inside3 .ensures)
+    (c .before .before .before .before .before .before .before .before .before .before .word-inside4 .ensures)
+    (c .before .before .before .before .before .before .before .before .before .word-inside5 .ensures)
+    (c .before .before .before .before .before .before .before .before .word-inside6 .ensures)
+    (c .before .before .before .before .before .before .before .word-inside7 .ensures)
+    (c .before .before .before .before .before .before .word-inside8 .ensures)
+    (c .before .before .before .before .before .word-inside9 .ensures)
+    (c .before .before .before .before .word-inside10 .ensures)
+    (c .before .before .before .five-inside .ensures)
+    (c .before .before .five-inside2 .ensures)
+    (c .before .five-inside3 .ensures)
+    (c .five-inside4 .ensures)
 
 pub ext-row-spec : {M : Type 1} → statement M
-ext-row-spec = tie.close (tie.spec (λ c κs. search needs) (λ c κs. search needs) returns)
+ext-row-spec =
+    tie.close
+    (tie.spec
+    (λ c κs. search needs)
+    (λ c. search needs)
+    (λ c. search needs)
+    (λ c κs. search needs)
+    (λ c. search needs)
+    (λ c κs. search needs)
+    (λ c. search needs)
+    (λ c κs. search needs)
+    (λ c. search needs)
+    (λ c κs. search needs)
+    (λ c. search needs)
+    (λ c κs. search needs)
+    (λ c. search needs)
+    (λ c κs. search needs)
+    (λ c. search needs)
+    (λ c κs. search needs)
+    (λ c. search needs)
+    (λ c κs. search needs)
+    (λ c. search needs)
+    (λ c κs. search needs)
+    (λ c. search needs)
+    (λ c κs. search needs)
+    (λ c. search needs)
+    (λ c κs. search needs)
+    (λ c. search needs)
+    (λ c κs. search needs)
+    (λ c. search needs)
+    (λ c κs. search needs)
+    (λ c. search needs)
+    (λ c κs. search needs)
+    (λ c. search needs)
+    (λ c κs. search needs)
+    returns-3)

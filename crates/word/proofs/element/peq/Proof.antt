@@ -1,13 +1,14 @@
--- `word::element::peq` meets its contract: by the promises of product, difference and sum.
+-- `word::element::peq` meets its contract: two times the product, and 1, less both.
 -- Assumes nothing.
 use borrow.Author.Needs.{needs}
-use Rattle.word.specs.Element.{peqₑ}
+use Rattle.word.proofs.DifferenceLaws.{peq-once}
 use Rattle.word.proofs.element.peq.Statement.{statement}
 use Rattle.word.proofs.element.peq.Tie as tie
 
 returns : tie.Need-returns
-unfolding peqₑ
-returns c = cc
+returns c =
+    rw (c .difference .ensures, c .before .sum3 .ensures, c .before .before .sum2 .ensures, c .before .before .before .sum .ensures, c .before .before .before .before .product .ensures)
+    (peq-once _ _)
 
 pub peq-spec : {M : Type 1} → statement M
 peq-spec =

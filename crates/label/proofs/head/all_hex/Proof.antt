@@ -1,0 +1,61 @@
+-- `head::all_hex` meets its contract. The invariant: the tests so far are those of the digits passed. The measure is what is left of
+-- the sixteen.
+use Prim.Native.Nat.{_-_, _≤_}
+use mathlib.Core.Bool.{Bool, _&&_}
+use mathlib.Core.Path.{_≡_, sym, _∙_, ap, ap₂}
+use borrow.Author.Needs.{needs}
+use native.Mathlib.Omega.{arith}
+use Rattle.label.specs.Reader.{every, hexAt}
+use Rattle.label.proofs.Runs.{every-more}
+use Rattle.label.proofs.head.all_hex.Statement.{statement}
+use Rattle.label.proofs.head.all_hex.Tie as tie
+
+abbrev Inv-loop : tie.InvT-loop
+Inv-loop text good₀ k₀ good k = (k ≤ 16) × (good ≡ every (hexAt text) k)
+
+abbrev μ-loop : tie.MeasureT-loop
+μ-loop text good₀ k₀ good k = 16 - k
+
+loop-holds : tie.Need-loop-holds Inv-loop μ-loop
+unfolding every
+loop-holds c = search needs
+
+add-is-hex : tie.Need-add-is-hex Inv-loop μ-loop
+add-is-hex c = search needs
+
+shared-slice-read-is-hex : tie.Need-shared-slice-read-is-hex Inv-loop μ-loop
+shared-slice-read-is-hex c = search needs
+
+is-hex-requires : tie.Need-is-hex-requires Inv-loop μ-loop
+is-hex-requires c κs = search needs
+
+add-k : tie.Need-add-k Inv-loop μ-loop
+add-k c = search needs
+
+loop-less : tie.Need-loop-less Inv-loop μ-loop
+loop-less c = search needs
+
+loop-again : tie.Need-loop-again Inv-loop μ-loop
+loop-again c =
+    let text = c .before .before .before .before .before .args .text .now in
+    let l = c .before .before .before .loop in
+    (search needs, ap₂ (λ (a b : Bool). a && b) (l .inv .1) (c .is-hex .ensures) ∙ sym (every-more (hexAt text) (l .k)))
+
+returns : tie.Need-returns Inv-loop μ-loop
+returns c =
+    c .before .loop .inv .1 ∙ ap (every (hexAt (c .before .before .before .args .text .now))) (omega arith)
+
+pub all-hex-spec : {M : Type 1} → statement M
+all-hex-spec =
+    tie.close
+    (tie.spec
+    Inv-loop
+    μ-loop
+    loop-holds
+    add-is-hex
+    shared-slice-read-is-hex
+    is-hex-requires
+    add-k
+    loop-less
+    loop-again
+    returns)

@@ -1,0 +1,3 @@
+pub mod Tuples
+pub mod Totals
+pub mod Held

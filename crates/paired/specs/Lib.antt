@@ -1,0 +1,2 @@
+pub mod Slots
+pub mod Times

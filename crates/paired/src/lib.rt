@@ -1,0 +1,70 @@
+// The bus of tables whose groups stand in any order, settled in rounds where it balances. In each round the pulls of one class of tuples are
+// put into slots, and every push of that class takes one of its tuple.
+mod hash;
+mod put;
+mod slot;
+mod take;
+mod times;
+mod tuple;
+
+use put::put_rows;
+use put::starts;
+use slot::none_waits;
+use take::take_rows;
+pub use tuple::pulled_tuple;
+pub use tuple::pushed_tuple;
+pub use tuple::same;
+ghost use mathlib.Core.Path.{_≡_};
+ghost use mathlib.Core.Bool.{true};
+ghost use mathlib.Core.List.{[]};
+ghost use Prim.Native.Nat.{_/_, _<_};
+ghost use lib.ListN.{length};
+ghost use Rattle.rules.specs.Bus.{Tuple, pushedTo, pulledTo};
+ghost use Rattle.rules.specs.Sizes.{given, tables};
+ghost use Rattle.paired.specs.Slots.{classOf};
+
+// A tuple that a row pushes or pulls on the bus.
+pub struct Sent {
+    pub aux: u32,
+    pub left: u32,
+    pub right: u32,
+    pub out: u32,
+}
+
+// Whether the pushes of a class of tuples take all its pulls. A slot is 0 where it is empty, k + 1 where extension row k waits, and 2^32 - 1
+// where a push took it.
+fn round(program: &[u8], exec: &[u8], ext: &[u8], rounds: u64, class: u64) -> bool
+    requires { ⌜ (length (now ext) < 4294967296) × (0 < rounds) ⌝ }
+    ensures { λ r. ⌜ (r ≡ true → (σ : Tuple) → classOf rounds σ ≡ class
+        → pushedTo (given (now (program .entry)) []) (tables (now (exec .entry)) (now (ext .entry))) σ (length (now (exec .entry)) / 32)
+        ≡ pulledTo (tables (now (exec .entry)) (now (ext .entry))) σ (length (now (ext .entry)) / 120)) ⌝ }
+{
+    let mut slots = [0u32; 9209];
+    if !put_rows(ext, &mut slots, rounds, class) {
+        return false;
+    }
+    if !take_rows(program, exec, ext, &mut slots, rounds, class) {
+        return false;
+    }
+    none_waits(&slots)
+}
+
+// Where it is true every tuple is pushed as often as it is pulled; where it is false nothing is known. A round has room for 8192 pulls.
+pub fn pairs_up(program: &[u8], exec: &[u8], ext: &[u8]) -> bool
+    ensures { λ r. ⌜ (r ≡ true → (σ : Tuple)
+        → pushedTo (given (now (program .entry)) []) (tables (now (exec .entry)) (now (ext .entry))) σ (length (now (exec .entry)) / 32)
+        ≡ pulledTo (tables (now (exec .entry)) (now (ext .entry))) σ (length (now (ext .entry)) / 120)) ⌝ }
+{
+    if 4294967295 < ext.len() {
+        return false;
+    }
+    let rounds = starts(ext) / 8192 + 1;
+    let mut class = 0;
+    while class < rounds {
+        if !round(program, exec, ext, rounds, class) {
+            return false;
+        }
+        class += 1;
+    }
+    true
+}

@@ -1,0 +1,86 @@
+// The pushes of a class take what waits in the slots.
+use crate::Sent;
+use crate::hash::class_of;
+use crate::hash::slot_of;
+use crate::slot::waiting_from;
+use crate::times::push_times;
+use crate::tuple::pushed_tuple;
+use form::instruction_at;
+use rows::exec_row;
+ghost use mathlib.Core.Path.{_≡_};
+ghost use mathlib.Core.Bool.{true};
+ghost use mathlib.Core.List.{[]};
+ghost use lib.ListN.{length};
+ghost use Prim.Native.Nat.{_+_, _*_, _/_, _<_};
+ghost use Rattle.rows.specs.Rows.{execAt};
+ghost use Rattle.rules.specs.Bus.{pushed, instructionOf};
+ghost use Rattle.rules.specs.Sizes.{given, tables};
+ghost use Rattle.paired.specs.Slots.{tupleOf, Taken};
+
+// The tuple of execution row r.
+fn row_tuple(program: &[u8], exec: &[u8], r: usize) -> Sent
+    requires { ⌜ r < length (now exec) / 32 ⌝ }
+    ensures { λ t. ⌜ tupleOf t ≡ pushed (instructionOf (given (now (program .entry)) []) (tables (now (exec .entry)) []) r) (execAt (now (exec .entry)) (32 * r)) ⌝ }
+{
+    let x = exec_row(exec, 32 * r);
+    pushed_tuple(instruction_at(program, 48 * (x.pc as usize)), x)
+}
+
+// Takes what execution row r pushes, if its tuple is of the class. False where it may push more than once, or no row waits for it.
+fn take_row(
+    program: &[u8],
+    exec: &[u8],
+    ext: &[u8],
+    slots: &mut [u32; 9209],
+    rounds: u64,
+    class: u64,
+    r: usize,
+) -> bool
+    requires { ⌜ 0 < rounds ⌝ }
+    requires { ⌜ r < length (now exec) / 32 ⌝ }
+    ensures { λ b. ⌜ (b ≡ true
+        → Taken (now (program .entry)) (now (exec .entry)) (now (ext .entry)) rounds class (now (slots .entry)) r
+        → Taken (now (program .entry)) (now (exec .entry)) (now (ext .entry)) rounds class (now (slots .exit)) (r + 1)) ⌝ }
+{
+    let times = push_times(program, exec, r);
+    if times == 0 {
+        return true;
+    }
+    if times != 1 {
+        return false;
+    }
+    let t = row_tuple(program, exec, r);
+    if class_of(t, rounds) != class {
+        return true;
+    }
+    let s = waiting_from(ext, slots, slot_of(t), t);
+    if s < 9209 {
+        slots[s] = 4294967295;
+        return true;
+    }
+    false
+}
+
+pub fn take_rows(
+    program: &[u8],
+    exec: &[u8],
+    ext: &[u8],
+    slots: &mut [u32; 9209],
+    rounds: u64,
+    class: u64,
+) -> bool
+    requires { ⌜ 0 < rounds ⌝ }
+    ensures { λ b. ⌜ (b ≡ true
+        → Taken (now (program .entry)) (now (exec .entry)) (now (ext .entry)) rounds class (now (slots .entry)) 0
+        → Taken (now (program .entry)) (now (exec .entry)) (now (ext .entry)) rounds class (now (slots .exit)) (length (now (exec .entry)) / 32)) ⌝ }
+{
+    let h = exec.len() / 32;
+    let mut r = 0;
+    while r < h {
+        if !take_row(program, exec, ext, slots, rounds, class, r) {
+            return false;
+        }
+        r += 1;
+    }
+    true
+}

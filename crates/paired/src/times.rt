@@ -1,0 +1,76 @@
+// How often a row pushes or pulls, where that is once or not at all. Any other number above 1 says nothing.
+use form::instruction_at;
+use word::word_at;
+ghost use mathlib.Core.Path.{_≡_};
+ghost use mathlib.Core.List.{[]};
+ghost use lib.ListN.{length};
+ghost use Prim.Native.Nat.{_*_, _/_, _<_, _≤_};
+ghost use Rattle.rows.specs.Rows.{extAt};
+ghost use Rattle.rules.specs.Bus.{pushes, pulls, instructionOf};
+ghost use Rattle.rules.specs.Sizes.{given, tables};
+ghost use Rattle.paired.specs.Times.{pushesBy, pullsBy};
+
+fn push_by_aux(aux: u32) -> u32
+    ensures { λ n. ⌜ (n ≤ 1 → n ≡ pushesBy 0 0 aux) ⌝ }
+{
+    if aux == 0 {
+        return 1;
+    }
+    if aux == 1 {
+        return 0;
+    }
+    if aux == 2 {
+        return 0;
+    }
+    2
+}
+
+fn push_by(mul: u32, jump: u32, aux: u32) -> u32
+    ensures { λ n. ⌜ (n ≤ 1 → n ≡ pushesBy mul jump aux) ⌝ }
+{
+    if (mul == 0) & (jump == 0) {
+        return push_by_aux(aux);
+    }
+    if (mul == 1) & (jump == 0) & (aux == 0) {
+        return 0;
+    }
+    if (mul == 0) & (jump == 1) & (aux == 0) {
+        return 0;
+    }
+    2
+}
+
+// Execution row r: pc is read, and the instruction's opcode words.
+pub fn push_times(program: &[u8], exec: &[u8], r: usize) -> u32
+    requires { ⌜ r < length (now exec) / 32 ⌝ }
+    ensures { λ n. ⌜ (n ≤ 1 → n ≡ pushes (instructionOf (given (now (program .entry)) []) (tables (now (exec .entry)) []) r)) ⌝ }
+{
+    let pc = word_at(exec, 32 * r);
+    let i = instruction_at(program, 48 * (pc as usize));
+    push_by(i.mul, i.jump, i.aux)
+}
+
+fn pull_by(start: u32, add: u32, mul: u32, peq: u32) -> u32
+    ensures { λ n. ⌜ (n ≤ 1 → n ≡ pullsBy start add mul peq) ⌝ }
+{
+    if (start == 1) & (add <= 1) & (mul <= 1) & (peq <= 1) {
+        return add + mul + peq;
+    }
+    2
+}
+
+// Extension row k: most have no start, and of those no more is read.
+pub fn pull_times(ext: &[u8], k: usize) -> u32
+    requires { ⌜ k < length (now ext) / 120 ⌝ }
+    ensures { λ n. ⌜ (n ≤ 1 → n ≡ pulls (extAt (now (ext .entry)) (120 * k))) ⌝ }
+{
+    let at = 120 * k;
+    let start = word_at(ext, at);
+    if start == 0 {
+        return 0;
+    }
+    let add = word_at(ext, at + 4);
+    let mul = word_at(ext, at + 8);
+    let peq = word_at(ext, at + 12);
+    pull_by(start, add, mul, peq)
+}

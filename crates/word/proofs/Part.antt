@@ -1,0 +1,18 @@
+-- A word of a part of a buffer is the word there of the buffer.
+-- Assumes nothing.
+use mathlib.Core.Path.{_≡_, _∙_, ap}
+use mathlib.Core.List.{List}
+use Prim.Native.Nat.{ℕ, _+_, _≤_, _<_}
+use native.Mathlib.Nat.{add-zero, add-assoc}
+use native.Mathlib.Omega.{arith}
+use lib.ListN.{getD, take, drop}
+use lib.Seq.{getD-take, getD-drop}
+use Rattle.word.specs.Bytes.{wordAt}
+
+module _ (s : List ℕ) (at n : ℕ) where
+  byte-part : (k : ℕ) → k < n → getD (take n (drop at s)) k 0 ≡ getD s (at + k) 0
+  byte-part k h = getD-take n (drop at s) k 0 h ∙ getD-drop at s k 0
+
+  pub word-part : (k : ℕ) → k + 4 ≤ n → wordAt (take n (drop at s)) k ≡ wordAt s (at + k)
+  word-part k h =
+      rw (byte-part k (omega arith), byte-part (k + 1) (omega arith), byte-part (k + 2) (omega arith), byte-part (k + 3) (omega arith), add-assoc at k 1, add-assoc at k 2, add-assoc at k 3)
