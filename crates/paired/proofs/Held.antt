@@ -47,10 +47,10 @@ other-class rounds class σ τ n mine differs = go (sameTuple τ σ) refl
     go false e = refl
 
 -- no slot is used yet, and no row is put
-pub none-put : (ext : List ℕ) (rounds class : ℕ) (slots : List ℕ) → length slots ≡ 9209 → ((s : ℕ) → s < 9209 → getD slots s 0 ≡ 0)
+pub none-put : (ext : List ℕ) (rounds class : ℕ) (slots : List ℕ) → length slots ≡ 10007 → ((s : ℕ) → s < 10007 → getD slots s 0 ≡ 0)
     → Put ext rounds class slots 0
 none-put ext rounds class slots size empty =
-    record { size = size; waits = λ σ mine. none-held ext slots σ 9209 (λ s h. ap live (empty s h)) }
+    record { size = size; waits = λ σ mine. none-held ext slots σ 10007 (λ s h. ap live (empty s h)) }
 
 -- extension row k
 module _ {ext : List ℕ} {rounds class : ℕ} {slots : List ℕ} {k : ℕ} (put : Put ext rounds class slots k) where
@@ -81,7 +81,7 @@ module _ {ext : List ℕ} {rounds class : ℕ} {slots : List ℕ} {k : ℕ} (put
       let row : k + 1 - 1 ≡ k = omega arith in
       rw (ne-eqb (k + 1) 0 (λ e. omega arith), ne-eqb (k + 1) 4294967295 (λ e. omega arith), row)
 
-  pub pulls-once : (q : ℕ) → 1 ≡ pulls (extAt ext (120 * k)) → k < 4294967294 → q < 9209 → getD slots q 0 ≡ 0
+  pub pulls-once : (q : ℕ) → 1 ≡ pulls (extAt ext (120 * k)) → k < 4294967294 → q < 10007 → getD slots q 0 ≡ 0
       → Put ext rounds class (set slots q (k + 1)) (k + 1)
   pulls-once q once few low empty =
       record {
@@ -89,7 +89,7 @@ module _ {ext : List ℕ} {rounds class : ℕ} {slots : List ℕ} {k : ℕ} (put
         waits = λ σ mine.
             let was = ap (λ x. either (waiting ext σ x) 1 0) empty ∙ dead ext σ 0 refl in
             let is : either (waiting ext σ (k + 1)) 1 0 ≡ pullsOf σ k = λ i. either (waits-as σ few i) (once i) 0 in
-            let written = held-set ext slots σ 9209 q (k + 1) (omega (arith, put .size)) low in
+            let written = held-set ext slots σ 10007 q (k + 1) (omega (arith, put .size)) low in
             omega (arith, one-more (pullsOf σ) k, put .waits σ mine);
       }
 
@@ -133,7 +133,7 @@ module _ {program exec ext : List ℕ} {rounds class : ℕ} {slots : List ℕ} {
       ap (λ b. b && sameTuple (pulled (extAt ext (120 * (x - 1)))) σ) (both .0)
       ∙ ap (λ ρ. sameTuple ρ σ) (same-tuple (pulled (extAt ext (120 * (x - 1)))) τ (both .1))
 
-  pub pushes-once : (q : ℕ) → 1 ≡ pushes (instructionOf (given program []) (tables exec []) r) → q < 9209
+  pub pushes-once : (q : ℕ) → 1 ≡ pushes (instructionOf (given program []) (tables exec []) r) → q < 10007
       → waiting ext sent (getD slots q 0) ≡ true → Taken program exec ext rounds class (set slots q 4294967295) (r + 1)
   pushes-once q once low waits =
       record {
@@ -141,11 +141,11 @@ module _ {program exec ext : List ℕ} {rounds class : ℕ} {slots : List ℕ} {
         waits = λ σ mine.
             let gone = dead ext σ 4294967295 refl in
             let was : either (waiting ext σ (getD slots q 0)) 1 0 ≡ pushesOf σ r = λ i. either (waits-same sent σ (getD slots q 0) waits i) (once i) 0 in
-            let written = held-set ext slots σ 9209 q 4294967295 (omega (arith, taken .size)) low in
+            let written = held-set ext slots σ 10007 q 4294967295 (omega (arith, taken .size)) low in
             omega (arith, one-more (pushesOf σ) r, taken .waits σ mine);
       }
 
   -- where no row waits any more, as much is pushed as is pulled
-  pub all-taken : ((s : ℕ) → s < 9209 → live (getD slots s 0) ≡ false) → (σ : Tuple) → classOf rounds σ ≡ class
+  pub all-taken : ((s : ℕ) → s < 10007 → live (getD slots s 0) ≡ false) → (σ : Tuple) → classOf rounds σ ≡ class
       → pushedTo (given program []) (tables exec ext) σ r ≡ pulledTo (tables exec ext) σ (length ext / 120)
-  all-taken none σ mine = omega (arith, taken .waits σ mine, none-held ext slots σ 9209 none)
+  all-taken none σ mine = omega (arith, taken .waits σ mine, none-held ext slots σ 10007 none)

@@ -21,7 +21,7 @@ hashOf σ = 668265263 * σ .aux + 1013904223 * σ .left + 374761393 * σ .right 
 
 -- the round in which a tuple is settled
 unfoldable pub classOf : ℕ → Tuple → ℕ
-classOf rounds σ = hashOf σ / 9209 % rounds
+classOf rounds σ = hashOf σ / 10007 % rounds
 
 -- a slot in which a row waits, and one in which a row with this tuple does
 abbrev pub live : ℕ → Bool
@@ -36,11 +36,11 @@ heldTo ext slots σ n = total (λ s. either (waiting ext σ (getD slots s 0)) 1 
 
 -- of each tuple of the class, as many rows wait as the extension rows below k pull
 pub record Put (ext : List ℕ) (rounds class : ℕ) (slots : List ℕ) (k : ℕ) : Type 0 where
-  pub size : length slots ≡ 9209
-  pub waits : (σ : Tuple) → classOf rounds σ ≡ class → heldTo ext slots σ 9209 ≡ pulledTo (tables [] ext) σ k
+  pub size : length slots ≡ 10007
+  pub waits : (σ : Tuple) → classOf rounds σ ≡ class → heldTo ext slots σ 10007 ≡ pulledTo (tables [] ext) σ k
 
 -- and then as many as are pulled and the execution rows below r did not take
 pub record Taken (program exec ext : List ℕ) (rounds class : ℕ) (slots : List ℕ) (r : ℕ) : Type 0 where
-  pub size : length slots ≡ 9209
+  pub size : length slots ≡ 10007
   pub waits : (σ : Tuple) → classOf rounds σ ≡ class
-      → heldTo ext slots σ 9209 + pushedTo (given program []) (tables exec ext) σ r ≡ pulledTo (tables exec ext) σ (length ext / 120)
+      → heldTo ext slots σ 10007 + pushedTo (given program []) (tables exec ext) σ r ≡ pulledTo (tables exec ext) σ (length ext / 120)

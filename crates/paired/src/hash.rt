@@ -19,11 +19,11 @@ pub fn class_of(t: Sent, rounds: u64) -> u64
     requires { ⌜ 0 < rounds ⌝ }
     ensures { λ r. ⌜ r ≡ classOf rounds (tupleOf t) ⌝ }
 {
-    hash(t) / 9209 % rounds
+    hash(t) / 10007 % rounds
 }
 
 pub fn slot_of(t: Sent) -> usize
-    ensures { λ r. ⌜ r < 9209 ⌝ }
+    ensures { λ r. ⌜ r < 10007 ⌝ }
 {
-    (hash(t) % 9209) as usize
+    (hash(t) % 10007) as usize
 }

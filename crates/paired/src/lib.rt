@@ -39,7 +39,7 @@ fn round(program: &[u8], exec: &[u8], ext: &[u8], rounds: u64, class: u64) -> bo
         → pushedTo (given (now (program .entry)) []) (tables (now (exec .entry)) (now (ext .entry))) σ (length (now (exec .entry)) / 32)
         ≡ pulledTo (tables (now (exec .entry)) (now (ext .entry))) σ (length (now (ext .entry)) / 120)) ⌝ }
 {
-    let mut slots = [0u32; 9209];
+    let mut slots = [0u32; 10007];
     if !put_rows(ext, &mut slots, rounds, class) {
         return false;
     }

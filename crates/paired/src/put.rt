@@ -26,7 +26,7 @@ pub fn starts(ext: &[u8]) -> u64 {
 }
 
 // Puts extension row k, if it pulls a tuple of the class. False where it pulls more than once, or no slot is found.
-fn put_row(ext: &[u8], slots: &mut [u32; 9209], rounds: u64, class: u64, k: usize) -> bool
+fn put_row(ext: &[u8], slots: &mut [u32; 10007], rounds: u64, class: u64, k: usize) -> bool
     requires { ⌜ (length (now ext) < 4294967296) × (0 < rounds) ⌝ }
     requires { ⌜ k < length (now ext) / 120 ⌝ }
     ensures { λ r. ⌜ (r ≡ true
@@ -45,14 +45,14 @@ fn put_row(ext: &[u8], slots: &mut [u32; 9209], rounds: u64, class: u64, k: usiz
         return true;
     }
     let s = empty_from(slots, slot_of(t));
-    if s < 9209 {
+    if s < 10007 {
         slots[s] = k as u32 + 1;
         return true;
     }
     false
 }
 
-pub fn put_rows(ext: &[u8], slots: &mut [u32; 9209], rounds: u64, class: u64) -> bool
+pub fn put_rows(ext: &[u8], slots: &mut [u32; 10007], rounds: u64, class: u64) -> bool
     requires { ⌜ (length (now ext) < 4294967296) × (0 < rounds) ⌝ }
     ensures { λ r. ⌜ (r ≡ true
         → Put (now (ext .entry)) rounds class (now (slots .entry)) 0

@@ -9,19 +9,19 @@ ghost use Prim.Native.Nat.{ℕ, _<_};
 ghost use Rattle.paired.specs.Slots.{tupleOf, live, waiting};
 
 fn after(s: usize) -> usize
-    requires { ⌜ s < 9209 ⌝ }
-    ensures { λ r. ⌜ r < 9209 ⌝ }
+    requires { ⌜ s < 10007 ⌝ }
+    ensures { λ r. ⌜ r < 10007 ⌝ }
 {
-    if s == 9208 {
+    if s == 10006 {
         return 0;
     }
     s + 1
 }
 
-// An empty slot; 9209 where none is found.
-pub fn empty_from(slots: &[u32; 9209], from: usize) -> usize
-    requires { ⌜ from < 9209 ⌝ }
-    ensures { λ r. ⌜ (r < 9209 → getD (now (slots .entry)) r 0 ≡ 0) ⌝ }
+// An empty slot; 10007 where none is found.
+pub fn empty_from(slots: &[u32; 10007], from: usize) -> usize
+    requires { ⌜ from < 10007 ⌝ }
+    ensures { λ r. ⌜ (r < 10007 → getD (now (slots .entry)) r 0 ≡ 0) ⌝ }
 {
     let mut s = from;
     let mut tried: usize = 0;
@@ -32,7 +32,7 @@ pub fn empty_from(slots: &[u32; 9209], from: usize) -> usize
         s = after(s);
         tried += 1;
     }
-    9209
+    10007
 }
 
 fn is_live(x: u32) -> bool
@@ -52,16 +52,16 @@ fn waits(ext: &[u8], x: u32, t: Sent) -> bool
     same(tuple_at(ext, 120 * row), t)
 }
 
-// A slot where a row with tuple t waits; 9209 where none is found. None is beyond an empty slot.
-pub fn waiting_from(ext: &[u8], slots: &[u32; 9209], from: usize, t: Sent) -> usize
-    requires { ⌜ from < 9209 ⌝ }
-    ensures { λ r. ⌜ (r < 9209 → waiting (now (ext .entry)) (tupleOf t) (getD (now (slots .entry)) r 0) ≡ true) ⌝ }
+// A slot where a row with tuple t waits; 10007 where none is found. None is beyond an empty slot.
+pub fn waiting_from(ext: &[u8], slots: &[u32; 10007], from: usize, t: Sent) -> usize
+    requires { ⌜ from < 10007 ⌝ }
+    ensures { λ r. ⌜ (r < 10007 → waiting (now (ext .entry)) (tupleOf t) (getD (now (slots .entry)) r 0) ≡ true) ⌝ }
 {
     let mut s = from;
     let mut tried: usize = 0;
     while tried < 2048 {
         if slots[s] == 0 {
-            return 9209;
+            return 10007;
         }
         if waits(ext, slots[s], t) {
             return s;
@@ -69,15 +69,15 @@ pub fn waiting_from(ext: &[u8], slots: &[u32; 9209], from: usize, t: Sent) -> us
         s = after(s);
         tried += 1;
     }
-    9209
+    10007
 }
 
 // Whether no row waits.
-pub fn none_waits(slots: &[u32; 9209]) -> bool
-    ensures { λ r. ⌜ (r ≡ true → (s : ℕ) → s < 9209 → live (getD (now (slots .entry)) s 0) ≡ false) ⌝ }
+pub fn none_waits(slots: &[u32; 10007]) -> bool
+    ensures { λ r. ⌜ (r ≡ true → (s : ℕ) → s < 10007 → live (getD (now (slots .entry)) s 0) ≡ false) ⌝ }
 {
     let mut s = 0;
-    while s < 9209 {
+    while s < 10007 {
         if is_live(slots[s]) {
             return false;
         }

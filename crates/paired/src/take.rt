@@ -31,7 +31,7 @@ fn take_row(
     program: &[u8],
     exec: &[u8],
     ext: &[u8],
-    slots: &mut [u32; 9209],
+    slots: &mut [u32; 10007],
     rounds: u64,
     class: u64,
     r: usize,
@@ -54,7 +54,7 @@ fn take_row(
         return true;
     }
     let s = waiting_from(ext, slots, slot_of(t), t);
-    if s < 9209 {
+    if s < 10007 {
         slots[s] = 4294967295;
         return true;
     }
@@ -65,7 +65,7 @@ pub fn take_rows(
     program: &[u8],
     exec: &[u8],
     ext: &[u8],
-    slots: &mut [u32; 9209],
+    slots: &mut [u32; 10007],
     rounds: u64,
     class: u64,
 ) -> bool

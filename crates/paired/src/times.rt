@@ -10,31 +10,33 @@ ghost use Rattle.rules.specs.Bus.{pushes, pulls, instructionOf};
 ghost use Rattle.rules.specs.Sizes.{given, tables};
 ghost use Rattle.paired.specs.Times.{pushesBy, pullsBy};
 
-fn push_by_aux(aux: u32) -> u32
-    ensures { λ n. ⌜ (n ≤ 1 → n ≡ pushesBy 0 0 aux) ⌝ }
-{
-    if aux == 0 {
-        return 1;
-    }
-    if aux == 1 {
-        return 0;
-    }
-    if aux == 2 {
-        return 0;
-    }
-    2
-}
-
+// By the opcode words. The kinds come in no order that a processor could foresee: so the words are joined in one number, and tested as one.
 fn push_by(mul: u32, jump: u32, aux: u32) -> u32
     ensures { λ n. ⌜ (n ≤ 1 → n ≡ pushesBy mul jump aux) ⌝ }
 {
-    if (mul == 0) & (jump == 0) {
-        return push_by_aux(aux);
+    if 1 < mul {
+        return 2;
     }
-    if (mul == 1) & (jump == 0) & (aux == 0) {
+    if 1 < jump {
+        return 2;
+    }
+    if 2 < aux {
+        return 2;
+    }
+    let code = mul + 2 * jump + 4 * aux;
+    if code == 0 {
+        return 1;
+    }
+    if code == 1 {
         return 0;
     }
-    if (mul == 0) & (jump == 1) & (aux == 0) {
+    if code == 2 {
+        return 0;
+    }
+    if code == 4 {
+        return 0;
+    }
+    if code == 8 {
         return 0;
     }
     2

@@ -43,7 +43,7 @@ unfolding classOf
 returns-3 c =
     let loop = c .before .loop in
     let rounds = c .before .before .starts .result / 8192 + 1 in
-    λ _ σ. loop .inv .3 (classOf rounds σ) (omega (arith, mod-lt (hashOf σ / 9209) (loop .inv .1))) σ refl
+    λ _ σ. loop .inv .3 (classOf rounds σ) (omega (arith, mod-lt (hashOf σ / 10007) (loop .inv .1))) σ refl
 
 pub pairs-up-spec : {M : Type 1} → statement M
 pairs-up-spec =

@@ -21,7 +21,7 @@ returns-3 c =
     let put-rows = c .before .before .before .before .before .before .put-rows in
     let take-rows = c .before .before .before .take-rows in
     let empty =
-    none-put (start .args .ext .now) (start .args .rounds) (start .args .class) _ (length-replicate {A = ℕ} 9209 0) (λ s h. getD-replicate 9209 s 0 0 h) in
+    none-put (start .args .ext .now) (start .args .rounds) (start .args .class) _ (length-replicate {A = ℕ} 10007 0) (λ s h. getD-replicate 10007 s 0 0 h) in
     let put = put-rows .ensures (not-false _ (c .before .before .before .before .before .if1 .left)) empty in
     let taken = take-rows .ensures (not-false _ (c .before .before .if2 .left)) (none-taken (start .args .program .now) (start .args .exec .now) refl put) in
     λ e. all-taken taken (c .none-waits .ensures e)

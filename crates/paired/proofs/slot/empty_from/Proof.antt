@@ -6,7 +6,7 @@ use Rattle.paired.proofs.slot.empty_from.Statement.{statement}
 use Rattle.paired.proofs.slot.empty_from.Tie as tie
 
 abbrev Inv-loop : tie.InvT-loop
-Inv-loop slots from s₀ tried₀ s tried = s < 9209
+Inv-loop slots from s₀ tried₀ s tried = s < 10007
 
 abbrev μ-loop : tie.MeasureT-loop
 μ-loop slots from s₀ tried₀ s tried = 2048 - tried

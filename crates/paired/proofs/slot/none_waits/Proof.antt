@@ -11,10 +11,10 @@ use Rattle.paired.proofs.slot.none_waits.Statement.{statement}
 use Rattle.paired.proofs.slot.none_waits.Tie as tie
 
 abbrev Inv-loop : tie.InvT-loop
-Inv-loop slots s₀ s = (s ≤ 9209) × ((j : ℕ) → j < s → live (getD slots j 0) ≡ false)
+Inv-loop slots s₀ s = (s ≤ 10007) × ((j : ℕ) → j < s → live (getD slots j 0) ≡ false)
 
 abbrev μ-loop : tie.MeasureT-loop
-μ-loop slots s₀ s = 9209 - s
+μ-loop slots s₀ s = 10007 - s
 
 loop-holds : tie.Need-loop-holds Inv-loop μ-loop
 loop-holds c = (omega arith, λ j h. absurd (omega arith))

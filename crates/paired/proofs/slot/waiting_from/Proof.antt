@@ -7,7 +7,7 @@ use Rattle.paired.proofs.slot.waiting_from.Statement.{statement}
 use Rattle.paired.proofs.slot.waiting_from.Tie as tie
 
 abbrev Inv-loop : tie.InvT-loop
-Inv-loop ext slots from t s₀ tried₀ s tried = s < 9209
+Inv-loop ext slots from t s₀ tried₀ s tried = s < 10007
 
 abbrev μ-loop : tie.MeasureT-loop
 μ-loop ext slots from t s₀ tried₀ s tried = 2048 - tried
