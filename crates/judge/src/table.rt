@@ -1,5 +1,5 @@
-// One walk over each table: the first row with a rule that fails. Each row is read once and tried by plain comparisons; only where they
-// don't settle it are the polynomials taken.
+// One walk over each table: the first row with a rule that fails. Each row is tried by plain comparisons; only where they don't settle it are the
+// polynomials taken. An extension row is read once, and kept for the row before; of the next execution row only pc and fp are read.
 use checks::exec_failing;
 use checks::exec_holds;
 use checks::ext_failing;
@@ -87,16 +87,15 @@ pub fn first_exec(program: &[u8], memory: &[u8], exec: &[u8]) -> usize
     ensures { λ s. ⌜ s ≡ firstExec (given (now (program .entry)) (now (memory .entry))) (tables (now (exec .entry)) []) ⌝ }
 {
     let n = exec.len() / 32;
-    let mut x = exec_row(exec, 0);
     let mut r = 0;
     while r < n {
+        let x = exec_at(exec, r);
         let y = exec_at(exec, paired(n, r));
         if !exec_pair_holds(program, memory, x, y) {
             if exec_row_failing(program, memory, exec, r) != 0 {
                 return r;
             }
         }
-        x = y;
         r += 1;
     }
     r

@@ -1,10 +1,10 @@
 -- Each row passed has no rule that fails, by comparisons or by the polynomials, and the walk stops at the first that has one.
 use borrow.Author.Needs.{needs}
-use borrow.Author.Tests.{eq-eqb, ne-eqb, not-false, lt-ltb}
+use borrow.Author.Tests.{eq-eqb, ne-eqb, not-false}
 use mathlib.Core.Logic.{⊎-elim}
 use mathlib.Core.Path.{_≡_, refl, sym, ap, _∙_}
 use mathlib.Core.List.{List, []}
-use Prim.Native.Nat.{ℕ, _+_, _-_, _*_, _/_, _<_}
+use Prim.Native.Nat.{ℕ, _-_, _*_, _/_}
 use native.Mathlib.Omega.{arith}
 use lib.ListN.{length}
 use Rattle.form.specs.Instruction.{instructionAt}
@@ -27,38 +27,35 @@ same-rules : (program memory exec : List ℕ) (r : ℕ) (x y : Exec)
 unfolding execRules
 same-rules program memory exec r x y ex ey = rw (ex, ey)
 
--- the row after one, where there is one, is the row paired with it
-next-row : (exec : List ℕ) (n r : ℕ) (y : Exec) → y ≡ execAt exec (32 * next n r) → r + 1 < n → y ≡ execAt exec (32 * (r + 1))
-next-row exec n r y e h = rw (lt-ltb _ _ h) at e
-
 abbrev Inv-loop : tie.InvT-loop
-Inv-loop program memory exec n x₀ r₀ x r =
+Inv-loop program memory exec n r₀ r =
     (n ≡ length exec / 32)
     × Walk (λ s. zero? (execFailing (given program memory) (tables exec []) s)) (length exec / 32) (firstExec (given program memory) (tables exec [])) r
-    × (r < n → x ≡ execAt exec (32 * r))
 
 abbrev μ-loop : tie.MeasureT-loop
-μ-loop program memory exec n x₀ r₀ x r = n - r
+μ-loop program memory exec n r₀ r = n - r
 
 loop-holds : tie.Need-loop-holds Inv-loop μ-loop
-loop-holds c = (refl, begins _ _, λ h. c .exec-row .ensures)
+loop-holds c = (refl, begins _ _)
 
 returns : tie.Need-returns Inv-loop μ-loop
 returns c =
-    finds (c .before .before .before .before .before .before .before .loop .inv .1) (omega arith)
+    finds (c .before .before .before .before .before .before .before .before .loop .inv .1) (omega arith)
     (ne-eqb _ _ (λ e. c .if2 .taken (c .before .exec-row-failing .ensures ∙ e)))
 
 loop-again : tie.Need-loop-again Inv-loop μ-loop
 loop-again c =
     let held = c .before .exec-pair-holds in
-    let row = c .before .before .exec-at in
+    let second = c .before .before .exec-at2 in
     let paired = c .before .before .before .paired in
-    let loop = c .before .before .before .before .before .loop in
+    let first = c .before .before .before .before .exec-at in
+    let loop = c .before .before .before .before .before .before .loop in
     let args = c .before .before .before .before .before .before .before .before .before .before .args in
     let exec = args .exec .now in
-    let y-is : row .result ≡ execAt exec (32 * next (length exec / 32) (loop .r)) = row .ensures ∙ ap (λ (k : ℕ). execAt exec (32 * k)) (paired .ensures .0) in
-    let passes = ⊎-elim (λ w. sym (w .1 .ensures) ∙ w .2 .left) (λ w. sym (same-rules (args .program .now) (args .memory .now) exec (loop .r) (loop .x) (row .result) (loop .inv .2 (omega arith)) y-is) ∙ held .ensures (not-false _ (w .left))) (c .if1 .came) in
-    (refl, goes-past (loop .inv .1) (omega arith) (eq-eqb _ _ passes), λ h. next-row exec (length exec / 32) (loop .r) (row .result) y-is h)
+    let y-is : second .result ≡ execAt exec (32 * next (length exec / 32) (loop .r)) = second .ensures ∙ ap (λ (k : ℕ). execAt exec (32 * k)) (paired .ensures .0) in
+    let same = same-rules (args .program .now) (args .memory .now) exec (loop .r) (first .result) (second .result) (first .ensures) y-is in
+    let passes = ⊎-elim (λ w. sym (w .1 .ensures) ∙ w .2 .left) (λ w. sym same ∙ held .ensures (not-false _ (w .left))) (c .if1 .came) in
+    (refl, goes-past (loop .inv .1) (omega arith) (eq-eqb _ _ passes))
 
 returns-2 : tie.Need-returns-2 Inv-loop μ-loop
 returns-2 c = finds-none (c .before .loop .inv .1) (c .loop-test .left)
@@ -69,8 +66,8 @@ first-exec-spec =
     (tie.spec
     Inv-loop
     μ-loop
-    (λ c κs. search needs)
     loop-holds
+    (λ c κs. search needs)
     (λ c κs. search needs)
     (λ c κs. search needs)
     (λ c κs. search needs)
