@@ -1,4 +1,5 @@
 pub mod Cases
 pub mod DataLaws
 pub mod Forms
+pub mod Opcodes
 pub mod Part

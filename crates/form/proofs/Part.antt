@@ -2,7 +2,7 @@
 -- Assumes nothing.
 use mathlib.Core.Path.{_≡_, _∙_, ap}
 use mathlib.Core.List.{List}
-use Prim.Native.Nat.{ℕ, _+_}
+use Prim.Native.Nat.{ℕ, _+_, _-_}
 use native.Mathlib.Nat.{add-zero}
 use native.Mathlib.Omega.{arith}
 use lib.ListN.{take, drop}
@@ -27,3 +27,9 @@ instruction-part s at i =
       aux = word-part s at 48 40 (omega arith) i;
       «data» = word-part s at 48 44 (omega arith) i;
     }
+
+-- the same of a part that is lent by its start and its end
+pub instruction-lent : (s : List ℕ) (at : ℕ) → instructionAt (take (at + 48 - at) (drop at s)) 0 ≡ instructionAt s at
+instruction-lent s at =
+    let size : at + 48 - at ≡ 48 = omega arith in
+    ap (λ (n : ℕ). instructionAt (take n (drop at s)) 0) size ∙ instruction-part s at

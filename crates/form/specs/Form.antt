@@ -81,3 +81,10 @@ byKind i =
 -- the form of an instruction, or that it is malformed
 unfoldable pub decodeOf : Instruction → Decoded
 decodeOf i = cond (flagsFit i) (byKind i) Malformed
+
+-- by the opcode words alone; of a well-formed instruction it is the same (proofs/Opcodes `known`)
+abbrev pub byOpcode : Instruction → Decoded
+byOpcode i =
+    cond (eqb (i .aux) 1) (formOf i Add)
+    (cond (eqb (i .aux) 2) (formOf i Deref)
+    (cond (eqb (i .mul) 1) (formOf i Mul) (cond (eqb (i .jump) 1) (formOf i Jump) (extensionOf i (readData (i .«data»))))))

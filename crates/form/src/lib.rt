@@ -1,6 +1,7 @@
 // An instruction's 12 words, and its form: one of five kinds with three operands, or malformed.
 mod data;
 mod kinds;
+mod known;
 mod words;
 
 pub use data::data_word;
@@ -12,6 +13,7 @@ use kinds::is_jump;
 use kinds::is_mul;
 use kinds::no_opcode;
 pub use kinds::well_formed;
+pub use known::decode_known;
 pub use words::instruction_at;
 ghost use mathlib.Core.Path.{_≡_};
 ghost use Rattle.form.specs.Data.{readData};

@@ -5,3 +5,4 @@ pub mod Standing
 pub mod Going
 pub mod Running
 pub mod Ending
+pub mod Passed

@@ -6,6 +6,7 @@ use answer::four_numbers;
 ghost use lib.ListN.{length};
 ghost use Rattle.parts.specs.Parts.{Fitting};
 ghost use Rattle.tabler.specs.Ends.{runOf, Tabling};
+ghost use Rattle.tabler.specs.Moves.{WellFormed};
 
 // 9 to 11 leave both tables all zero.
 pub fn finish(
@@ -17,6 +18,7 @@ pub fn finish(
     ext: &mut [u8],
 ) -> Answer
     requires { ⌜ Fitting (length (now program)) (length (now memory)) (length (now exec)) (length (now ext)) ⌝ }
+    requires { ⌜ WellFormed (now program) ⌝ }
     ensures { λ r. ⌜ Tabling (now (program .entry)) (now (memory .entry)) pc fp (now (exec .entry)) (now (ext .entry)) (runOf (now (program .entry)) (now (memory .entry)) pc fp (now (exec .entry)) (now (ext .entry))) (now (exec .exit)) (now (ext .exit)) r ⌝ }
 {
     let answer = run(program, memory, pc, fp, exec, ext);

@@ -10,6 +10,7 @@ use answer::Answer;
 ghost use lib.ListN.{length};
 ghost use Rattle.parts.specs.Parts.{Fitting};
 ghost use Rattle.tabler.specs.Ends.{Ended};
+ghost use Rattle.tabler.specs.Moves.{WellFormed};
 
 // Stuck or no room at a row, open at the last, or both tables filled. A refusal leaves them half written.
 pub fn run(
@@ -21,6 +22,7 @@ pub fn run(
     ext: &mut [u8],
 ) -> Answer
     requires { ⌜ Fitting (length (now program)) (length (now memory)) (length (now exec)) (length (now ext)) ⌝ }
+    requires { ⌜ WellFormed (now program) ⌝ }
     ensures { λ r. ⌜ Ended (now (program .entry)) (now (memory .entry)) «start_pc» «start_fp» (now (exec .entry)) (now (ext .entry)) (now (exec .exit)) (now (ext .exit)) r ⌝ }
 {
     let height = exec.len() / 32;

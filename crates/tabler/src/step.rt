@@ -13,6 +13,7 @@ use form::Mode;
 use form::Op;
 use form::Operand;
 use form::decode;
+use form::decode_known;
 use form::instruction_at;
 use word::add;
 use word::mul;
@@ -30,18 +31,18 @@ ghost use Rattle.tables.specs.Groups.{lengthOf, stepRow};
 ghost use Rattle.tables.specs.Rows.{formAt, columnB};
 ghost use Rattle.tabled.specs.Tabled.{machineOf};
 ghost use Rattle.tabler.specs.Looked.{operandsOf};
-ghost use Rattle.tabler.specs.Moves.{at, Ready, movedOf};
+ghost use Rattle.tabler.specs.Moves.{at, Ready, WellFormed, movedOf};
 ghost use Rattle.tabler.specs.Placed.{extBytes, kindRows, Stepped};
 
 // A malformed instruction is read as the jump that stands for it; no program with one is run.
-pub fn form_at(program: &[u8], pc: u32) -> Form
-    ensures { λ r. ⌜ r ≡ formIn (decodeOf (instructionAt (now (program .entry)) (48 * pc))) ⌝ }
+fn form_of(d: Decoded) -> Form
+    ensures { λ r. ⌜ r ≡ formIn d ⌝ }
 {
     let zero = Operand {
         mode: Mode::Immediate,
         word: 0,
     };
-    match decode(instruction_at(program, 48 * (pc as usize))) {
+    match d {
         Decoded::Malformed => Form {
             kind: Kind::Jump,
             a: zero,
@@ -50,6 +51,25 @@ pub fn form_at(program: &[u8], pc: u32) -> Form
         },
         Decoded::Well(f) => f,
     }
+}
+
+// Where pc is past the program its bytes count as 0.
+fn form_past(program: &[u8], pc: u32) -> Form
+    ensures { λ r. ⌜ r ≡ formIn (decodeOf (instructionAt (now (program .entry)) (48 * pc))) ⌝ }
+{
+    form_of(decode(instruction_at(program, 48 * (pc as usize))))
+}
+
+// Every instruction was tested before the run: one is read from its own 48 bytes and decoded with no test.
+pub fn form_at(program: &[u8], pc: u32) -> Form
+    requires { ⌜ WellFormed (now program) ⌝ }
+    ensures { λ r. ⌜ r ≡ formIn (decodeOf (instructionAt (now (program .entry)) (48 * pc))) ⌝ }
+{
+    if program.len() / 48 <= (pc as usize) {
+        return form_past(program, pc);
+    }
+    let at = 48 * (pc as usize);
+    form_of(decode_known(instruction_at(&program[at..at + 48], 0)))
 }
 
 // On to the next instruction where what is asked holds.

@@ -1,25 +1,17 @@
 -- The instruction is read from its own 48 bytes, which are there as pc is below the number of instructions.
 use borrow.Author.Needs.{needs}
 use mathlib.Core.Bool.{false≢true}
-use mathlib.Core.Path.{_≡_, _∙_, ap}
-use mathlib.Core.List.{List}
-use Prim.Native.Nat.{ℕ, _+_, _-_, _*_}
-use native.Mathlib.Omega.{arith}
-use lib.ListN.{take, drop}
+use mathlib.Core.Path.{_≡_, _∙_}
+use Prim.Native.Nat.{_*_}
 use Rattle.form.specs.Instruction.{instructionAt}
-use Rattle.form.proofs.Part.{instruction-part}
+use Rattle.form.proofs.Part.{instruction-lent}
 use Rattle.judge.proofs.table.exec_pair_holds.Statement.{statement}
 use Rattle.judge.proofs.table.exec_pair_holds.Tie as tie
-
-part-read : (s : List ℕ) (at : ℕ) → instructionAt (take (at + 48 - at) (drop at s)) 0 ≡ instructionAt s at
-part-read s at =
-    let size : at + 48 - at ≡ 48 = omega arith in
-    ap (λ (n : ℕ). instructionAt (take n (drop at s)) 0) size ∙ instruction-part s at
 
 returns-2 : tie.Need-returns-2
 returns-2 c e =
     let args = c .before .before .before .before .before .before .before .args in
-    let read : c .before .instruction-at .result ≡ instructionAt (args .program .now) (48 * args .x .pc) = c .before .instruction-at .ensures ∙ part-read (args .program .now) (48 * args .x .pc) in
+    let read : c .before .instruction-at .result ≡ instructionAt (args .program .now) (48 * args .x .pc) = c .before .instruction-at .ensures ∙ instruction-lent (args .program .now) (48 * args .x .pc) in
     rw read at (c .exec-holds .ensures e)
 
 pub exec-pair-holds-spec : {M : Type 1} → statement M

@@ -1,22 +1,12 @@
 -- The 48 bytes from an instruction's first are read as it is.
 use borrow.Author.Needs.{needs}
-use mathlib.Core.Path.{_≡_, _∙_, ap}
-use mathlib.Core.List.{List}
-use Prim.Native.Nat.{ℕ, _+_, _-_, _*_}
-use native.Mathlib.Omega.{arith}
-use lib.ListN.{take, drop}
-use Rattle.form.specs.Instruction.{instructionAt}
-use Rattle.form.proofs.Part.{instruction-part}
+use mathlib.Core.Path.{_∙_}
+use Rattle.form.proofs.Part.{instruction-lent}
 use Rattle.parts.proofs.walk.instruction.Statement.{statement}
 use Rattle.parts.proofs.walk.instruction.Tie as tie
 
-part-read : (s : List ℕ) (at : ℕ) → instructionAt (take (at + 48 - at) (drop at s)) 0 ≡ instructionAt s at
-part-read s at =
-    let size : at + 48 - at ≡ 48 = omega arith in
-    ap (λ (n : ℕ). instructionAt (take n (drop at s)) 0) size ∙ instruction-part s at
-
 returns : tie.Need-returns
-returns c = c .instruction-at .ensures ∙ part-read _ _
+returns c = c .instruction-at .ensures ∙ instruction-lent _ _
 
 pub instruction-spec : {M : Type 1} → statement M
 instruction-spec =

@@ -36,16 +36,19 @@ goes-here : (c : tie.After-p Inv-loop μ-loop)
 goes-here c = went _ (sym (c .p .given .1) ∙ c .before .before .before .before .step-of .ensures .moved)
 
 loop-holds : tie.Need-loop-holds Inv-loop μ-loop
-loop-holds c = (refl, refl, begins (omega (arith, c .before .before .before .before .pre)))
+loop-holds c = (refl, refl, begins (omega (arith, c .before .before .before .before .pre .0)))
+
+form-at-requires : tie.Need-form-at-requires Inv-loop μ-loop
+form-at-requires c κs = c .before .before .before .before .before .before .pre .1
 
 step-of-requires : tie.Need-step-of-requires Inv-loop μ-loop
 step-of-requires c κs =
     let l = c .before .before .before .before .loop in
     let s = c .before .before .before .before .before .before .before .before .before in (
-      omega (arith, s .pre),
+      omega (arith, s .pre .0),
       record {
-        memory-short = s .pre .memory-short;
-        ext-short = omega (arith, l .inv .1, s .pre .ext-short);
+        memory-short = s .pre .0 .memory-short;
+        ext-short = omega (arith, l .inv .1, s .pre .0 .ext-short);
         filled-in = omega (arith, l .inv .1, l .inv .2 .fits);
       },
       c .before .before .form-at .ensures,
@@ -64,7 +67,7 @@ add-if1 : tie.Need-add-if1 Inv-loop μ-loop
 add-if1 c =
     let l = c .before .before .before .before .before .before .before .before .before .before .before .loop in
     let s = c .before .before .before .before .before .before .before .before .before .before .before .before .before .before .before .before in
-    omega (arith, l .inv .2 .fits, s .pre .ext-short)
+    omega (arith, l .inv .2 .fits, s .pre .0 .ext-short)
 
 returns-2 : tie.Need-returns-2 Inv-loop μ-loop
 returns-2 c =
@@ -86,7 +89,7 @@ add-filled c =
     omega (arith, e .if1 .left, e .before .before .before .before .before .before .before .before .before .before .before .before .before .before .before .before .before .good)
 
 add-r : tie.Need-add-r Inv-loop μ-loop
-add-r c = omega (arith, c .before .before .before .before .before .before .before .before .before .before .before .before .before .before .before .loop-test .taken, c .before .before .before .before .before .before .before .before .before .before .before .before .before .before .before .before .before .before .before .before .before .pre .exec-short)
+add-r c = omega (arith, c .before .before .before .before .before .before .before .before .before .before .before .before .before .before .before .loop-test .taken, c .before .before .before .before .before .before .before .before .before .before .before .before .before .before .before .before .before .before .before .before .before .pre .0 .exec-short)
 
 loop-less : tie.Need-loop-less Inv-loop μ-loop
 loop-less c = omega (arith, c .before .before .before .before .before .before .before .before .before .before .before .before .before .before .before .loop-test .taken)
@@ -126,7 +129,7 @@ put-padding-requires : tie.Need-put-padding-requires Inv-loop μ-loop
 put-padding-requires c κs =
     let l = c .before .before .before .loop in
     let s = c .before .before .before .before .before .before .before .before in
-    omega (arith, rest-length (l .ext) (120 * l .filled) (omega (arith, l .inv .1, l .inv .2 .fits)), l .inv .1, s .pre .ext-rows)
+    omega (arith, rest-length (l .ext) (120 * l .filled) (omega (arith, l .inv .1, l .inv .2 .fits)), l .inv .1, s .pre .0 .ext-rows)
 
 returns-4 : tie.Need-returns-4 Inv-loop μ-loop
 returns-4 c =
@@ -138,9 +141,9 @@ returns-4 c =
       answer = sym (stands (l .inv .2) done
           ∙ rw (not-false (l .stays) (c .before .before .before .before .if2 .left)));
       exec-filled = λ _. all-exec (l .inv .2) done
-          (omega (arith, l .inv .0, s .pre .exec-rows));
+          (omega (arith, l .inv .0, s .pre .0 .exec-rows));
       ext-filled = λ _. all-ext (l .inv .2) done
-          (omega (arith, l .inv .1, s .pre .ext-rows)) (x .ensures) refl;
+          (omega (arith, l .inv .1, s .pre .0 .ext-rows)) (x .ensures) refl;
     }
 
 pub run-spec : {M : Type 1} → statement M
@@ -151,7 +154,7 @@ run-spec =
     μ-loop
     loop-holds
     (λ c. search needs)
-    (λ c κs. search needs)
+    form-at-requires
     (λ c κs. search needs)
     step-of-requires
     (λ c. search needs)

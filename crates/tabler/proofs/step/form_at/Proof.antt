@@ -1,22 +1,36 @@
--- In each arm it is known what `decode` gave.
+-- An instruction that is there was tested, so `decode_known` gives its form.
 use borrow.Author.Needs.{needs}
+use mathlib.Core.Path.{_∙_, ap}
+use native.Mathlib.Omega.{arith}
+use Rattle.form.specs.Form.{wellFormed, decodeOf}
+use Rattle.form.proofs.Opcodes.{known}
+use Rattle.form.proofs.Part.{instruction-lent}
+use Rattle.machine.specs.Machine.{formIn}
 use Rattle.tabler.proofs.step.form_at.Statement.{statement}
 use Rattle.tabler.proofs.step.form_at.Tie as tie
 
-returns : tie.Need-returns
-returns c = rw (← c .before .before .before .instruction-at .ensures, ← c .before .before .decode .ensures, c .enum-told .given .1)
-
 returns-2 : tie.Need-returns-2
-returns-2 c = rw (← c .before .before .before .before .instruction-at .ensures, ← c .before .before .before .decode .ensures, c .before .f .given .1)
+returns-2 c =
+    let found = c .before in
+    let read = found .before in
+    let inside = read .before .before in
+    let start = inside .before .before in
+    let well = start .pre (start .args .pc) (omega (arith, inside .if1 .left)) in
+    let i = read .instruction-at .ensures ∙ instruction-lent _ _ in
+    c .form-of .ensures ∙ ap formIn (found .decode-known .ensures ∙ known _ (ap wellFormed i ∙ well) ∙ ap decodeOf i)
 
 pub form-at-spec : {M : Type 1} → statement M
 form-at-spec =
     tie.close
     (tie.spec
-    (λ c. search needs)
-    (λ c κs. search needs)
     (λ c κs. search needs)
     (λ c. search needs)
     (λ c. search needs)
-    returns
+    (λ c. search needs)
+    (λ c. search needs)
+    (λ c. search needs)
+    (λ c. search needs)
+    (λ c κs. search needs)
+    (λ c κs. search needs)
+    (λ c κs. search needs)
     returns-2)

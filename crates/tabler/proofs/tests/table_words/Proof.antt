@@ -4,6 +4,7 @@ use borrow.Author.Tests.{lt-ltb, le-ltb}
 use mathlib.Core.Path.{refl}
 use Rattle.word.specs.Word.{p}
 use Rattle.tabler.proofs.Ending.{unchanged}
+use Rattle.tabler.proofs.Passed.{all-formed}
 use Rattle.tabler.proofs.tests.table_words.Statement.{statement}
 use Rattle.tabler.proofs.tests.table_words.Tie as tie
 
@@ -40,6 +41,12 @@ returns-5 c =
     unchanged _ _ _ _ _ _ (λ old written. refl)
     (rw (← e1 .before .first-word .ensures, le-ltb _ _ (e1 .if1 .left), ← e2 .before .first-word2 .ensures, le-ltb _ _ (e2 .if2 .left), ← e3 .before .first-malformed .ensures, le-ltb _ _ (e3 .if3 .left), lt-ltb _ p (e4 .if4 .left), le-ltb _ p (c .if5 .taken)))
 
+finish-requires : tie.Need-finish-requires
+finish-requires c κs =
+    let e3 = c .before .before .before .before in
+    let start = e3 .before .before .before .before .before .before .before .before .before .before in
+    (start .pre, all-formed (start .args .program .now) (e3 .before .first-malformed .result) (e3 .before .first-malformed .ensures) (e3 .if3 .left))
+
 returns-6 : tie.Need-returns-6
 returns-6 c =
     let f = c .before .before .before .before in
@@ -68,7 +75,7 @@ table-words-spec =
     returns-5
     (λ c. search needs)
     (λ c. search needs)
-    (λ c κs. search needs)
+    finish-requires
     (λ c. search needs)
     (λ c. search needs)
     returns-6)
