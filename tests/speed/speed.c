@@ -1,7 +1,7 @@
 /* Times the library beside the second implementation, both on the same buffers in one run.
  *
- * A time is the least of several runs, taken in turn. Nothing is cleared between runs; the tables are written by each tabler before
- * its judge reads them. */
+ * A time is the least of several runs, taken in turn. Nothing is cleared between runs; the tables are written by both tablers before
+ * the judges read them. */
 #define _POSIX_C_SOURCE 200809L
 #include <stdio.h>
 #include <stdlib.h>
@@ -12,16 +12,15 @@
 #include "inputs.h"
 #include "../differ/library.h"
 
-enum { SIZES = 3 };
-
-/* so many runs of each size: the smaller, the more, so that some are not disturbed */
-static const int rounds_at[SIZES] = {80, 40, 20};
+enum { SIZES = 3, ROUNDS = 41 };
 
 typedef struct {
     speed_input *in;
     const uint8_t *ext; /* the extension table that is judged */
     uint64_t seed;
     uint32_t m, n;
+    uint8_t text[64]; /* a label */
+    size_t text_len;
     size_t calls; /* so many calls are timed as one */
 } job;
 
@@ -87,22 +86,23 @@ static uint32_t second_makes(job *j)
 }
 
 /* labels of every seed in turn, so that no call can be left out */
-static uint8_t text[64];
-static size_t text_len;
+static void next_seed(job *j)
+{
+    j->text[10 + j->seed % 15] = (uint8_t)('0' + j->seed % 10);
+    j->seed++;
+}
 
 static uint32_t library_label(job *j)
 {
-    text[10 + j->seed % 15] = (uint8_t)('0' + j->seed % 10);
-    j->seed++;
-    return uisnabar_label(text, text_len, answer, sizeof answer, recipe, sizeof recipe);
+    next_seed(j);
+    return uisnabar_label(j->text, j->text_len, answer, sizeof answer, recipe, sizeof recipe);
 }
 
 static uint32_t second_label(job *j)
 {
     second_recipe r;
-    text[10 + j->seed % 15] = (uint8_t)('0' + j->seed % 10);
-    j->seed++;
-    return second_read_label(text, text_len, &r).verdict;
+    next_seed(j);
+    return second_read_label(j->text, j->text_len, &r).verdict;
 }
 
 static double seconds(void)
@@ -120,31 +120,46 @@ static double once(call f, job *j, const char *what)
     return (seconds() - begun) / (double)j->calls;
 }
 
+/* one line of the page: a job of one size */
 typedef struct {
-    double library, second;
-} pair;
+    const char *size;
+    double units; /* rows, cells or bytes */
+    job j;
+    double library, second;  /* the least time of each */
+    double ratios[ROUNDS]; /* library / second, each of two runs in turn */
+} compared;
 
-/* the least time of each, taken in turn */
-static pair timed(call library, call second, job *j, int rounds, const char *what)
+static int by_size(const void *x, const void *y)
 {
-    pair best = {1e30, 1e30};
-    for (int k = 0; k < rounds; k++) {
-        double a = once(library, j, what), b = once(second, j, what);
-        best.library = a < best.library ? a : best.library;
-        best.second = b < best.second ? b : best.second;
-    }
-    return best;
+    double a = *(const double *)x, b = *(const double *)y;
+    return (a > b) - (a < b);
 }
 
-static void line(const char *what, const char *size, double units, pair t, double *before)
+/* All sizes in each round, so that a slow spell of the machine falls on each of them, and each implementation first in turn, as the first finds
+ * caches cold. The ratio is the middle one of all rounds. */
+static void compare(const char *what, compared c[SIZES], int sizes, int rounds, call library, call second)
 {
-    double each = 1e9 * t.library / units;
-    printf("%-34s %-26s %10.3f %10.3f %7.2f", what, size, each, 1e9 * t.second / units, t.library / t.second);
-    if (*before > 0)
-        printf(" %7.2f", each / *before);
-    printf("\n");
+    for (int s = 0; s < sizes; s++)
+        c[s].library = c[s].second = 1e30;
+    for (int k = 0; k < rounds; k++)
+        for (int s = 0; s < sizes; s++) {
+            double b = k % 2 ? once(second, &c[s].j, what) : 0;
+            double a = once(library, &c[s].j, what);
+            if (k % 2 == 0)
+                b = once(second, &c[s].j, what);
+            c[s].ratios[k] = a / b;
+            c[s].library = a < c[s].library ? a : c[s].library;
+            c[s].second = b < c[s].second ? b : c[s].second;
+        }
+    for (int s = 0; s < sizes; s++) {
+        double each = 1e9 * c[s].library / c[s].units;
+        qsort(c[s].ratios, (size_t)rounds, sizeof(double), by_size);
+        printf("%-34s %-26s %10.3f %10.3f %7.2f", what, c[s].size, each, 1e9 * c[s].second / c[s].units, c[s].ratios[rounds / 2]);
+        if (s > 0)
+            printf(" %7.2f", each / (1e9 * c[s - 1].library / c[s - 1].units));
+        printf("\n");
+    }
     fflush(stdout);
-    *before = each;
 }
 
 static uint64_t plain_sum(const uint8_t *bytes, size_t n)
@@ -155,65 +170,69 @@ static uint64_t plain_sum(const uint8_t *bytes, size_t n)
     return sum;
 }
 
-static void bytes_each_second(speed_input *in, double judge_seconds)
+static void bytes_each_second(const compared *c)
 {
+    speed_input *in = c->j.in;
     double begun = seconds();
     volatile uint64_t sum = plain_sum(in->program, in->program_len) + plain_sum(in->memory, in->memory_len) +
                             plain_sum(in->exec, in->exec_len) + plain_sum(in->ext, in->ext_len);
     double taken = seconds() - begun;
     double bytes = (double)(in->program_len + in->memory_len + in->exec_len + in->ext_len);
     (void)sum;
-    printf("%-34s judge %.0f MB/s, a plain sum over the same bytes %.0f MB/s\n", "", bytes / judge_seconds / 1e6, bytes / taken / 1e6);
+    printf("%-34s %-26s judge %.0f MB/s, a plain sum over the same bytes %.0f MB/s\n", "", c->size, bytes / c->library / 1e6,
+           bytes / taken / 1e6);
 }
-
-static const unsigned logs[SIZES][3] = {{12, 10, 14}, {15, 13, 17}, {18, 16, 20}};
-static const char *const names[SIZES] = {"H 2^12, K 2^10, m 14", "H 2^15, K 2^13, m 17", "H 2^18, K 2^16, m 20"};
 
 static void tables(void)
 {
-    double table = 0, judge = 0, shuffled = 0;
+    static const unsigned logs[SIZES][3] = {{12, 10, 14}, {15, 13, 17}, {18, 16, 20}};
+    static const char *const names[SIZES] = {"H 2^12, K 2^10, m 14", "H 2^15, K 2^13, m 17", "H 2^18, K 2^16, m 20"};
+    static speed_input in[SIZES];
+    static compared c[SIZES];
     for (int s = 0; s < SIZES; s++) {
-        speed_input in = speed_build(logs[s][0], logs[s][1], logs[s][2], 1);
-        double rows = (double)(in.height + in.ext_height);
-        job j = {.in = &in, .ext = in.ext, .calls = 1};
-        line("tabler", names[s], rows, timed(library_table, second_tables, &j, rounds_at[s], "a run"), &table);
-        pair t = timed(library_judge, second_judges, &j, rounds_at[s], "a table");
-        line("judge", names[s], rows, t, &judge);
-        bytes_each_second(&in, t.library);
-        speed_shuffle(&in, 2);
-        j.ext = in.shuffled;
-        line("judge, groups shuffled; sorted", names[s], rows, timed(library_judge, second_sorts, &j, rounds_at[s], "a shuffled table"), &shuffled);
-        if (s < 2) {
-            double none = 0;
-            line("judge, groups shuffled; counted", names[s], rows, timed(library_judge, second_judges, &j, 1, "a shuffled table"), &none);
-        }
-        speed_free(&in);
+        in[s] = speed_build(logs[s][0], logs[s][1], logs[s][2], 1);
+        c[s] = (compared){.size = names[s], .units = (double)(in[s].height + in[s].ext_height)};
+        c[s].j = (job){.in = &in[s], .ext = in[s].ext, .calls = s == 0 ? 16 : s == 1 ? 2 : 1};
     }
+    compare("tabler", c, SIZES, ROUNDS, library_table, second_tables);
+    compare("judge", c, SIZES, ROUNDS, library_judge, second_judges);
+    for (int s = 0; s < SIZES; s++)
+        bytes_each_second(&c[s]);
+    for (int s = 0; s < SIZES; s++) {
+        speed_shuffle(&in[s], 2);
+        c[s].j.ext = in[s].shuffled;
+    }
+    compare("judge, groups shuffled; sorted", c, SIZES, ROUNDS, library_judge, second_sorts);
+    compare("judge, groups shuffled; counted", c, 2, 1, library_judge, second_judges);
+    for (int s = 0; s < SIZES; s++)
+        speed_free(&in[s]);
 }
 
 static void makers(void)
 {
     static const uint32_t ms[SIZES] = {14, 17, 20}, ns[SIZES] = {31, 62, 124};
     static const char *const sizes[SIZES] = {"m 14, n 31", "m 17, n 62", "m 20, n 124"};
-    double before = 0;
+    static compared c[SIZES];
+    speed_input in = speed_build(8, 8, 20, 1);
     for (int s = 0; s < SIZES; s++) {
-        speed_input in = speed_build(8, 8, 20, 1);
-        job j = {.in = &in, .seed = 5, .m = ms[s], .n = ns[s], .calls = 1};
-        line("maker, each cell", sizes[s], (double)((size_t)1 << ms[s]), timed(library_make, second_makes, &j, rounds_at[s], "a recipe"), &before);
-        speed_free(&in);
+        c[s] = (compared){.size = sizes[s], .units = (double)((size_t)1 << ms[s])};
+        c[s].j = (job){.in = &in, .seed = 5, .m = ms[s], .n = ns[s], .calls = s == 0 ? 64 : s == 1 ? 8 : 1};
     }
+    compare("maker, each cell", c, SIZES, ROUNDS, library_make, second_makes);
+    speed_free(&in);
 }
 
 static void labels(void)
 {
     static const uint32_t ns[SIZES] = {1, 62, 124};
     static const char *const sizes[SIZES] = {"n 1", "n 62", "n 124"};
-    double before = 0;
+    static compared c[SIZES];
     for (int s = 0; s < SIZES; s++) {
-        text_len = probe_write(0x0123456789abcdef, 10, ns[s], text, sizeof text, answer, sizeof answer);
-        job j = {.seed = 1, .calls = 2000};
-        line("label reader, each byte", sizes[s], (double)text_len, timed(library_label, second_label, &j, 100, "a label"), &before);
+        c[s] = (compared){.size = sizes[s], .j = {.seed = 1, .calls = 20000}};
+        c[s].j.text_len = probe_write(0x0123456789abcdef, 10, ns[s], c[s].j.text, sizeof c[s].j.text, answer, sizeof answer);
+        c[s].units = (double)c[s].j.text_len;
     }
+    compare("label reader, each byte", c, SIZES, ROUNDS, library_label, second_label);
 }
 
 int main(void)
