@@ -1,13 +1,13 @@
 // Rules 6 to 9 of an extension row: what its running result comes to.
 use crate::gated;
+use element::difference;
+use element::peq;
+use element::product;
+use element::scale;
+use element::sum;
 use parts::first_of;
 use rows::Ext;
-use word::difference;
-use word::peq;
-use word::product;
-use word::scale;
 use word::sub;
-use word::sum;
 ghost use mathlib.Core.Path.{_≡_};
 ghost use mathlib.Core.Bool.{_&&_};
 ghost use lib.Dec.{ltb};

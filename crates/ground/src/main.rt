@@ -87,10 +87,10 @@ fn drawn_words(seed: u64) {
 fn elements(a: [u32; 5], b: [u32; 5]) {
     element(b"a", a);
     element(b"b", b);
-    element(b"sum", word::sum(a, b));
-    element(b"difference", word::difference(a, b));
-    element(b"product", word::product(a, b));
-    element(b"peq", word::peq(a, b));
+    element(b"sum", element::sum(a, b));
+    element(b"difference", element::difference(a, b));
+    element(b"product", element::product(a, b));
+    element(b"peq", element::peq(a, b));
 }
 
 fn edge_elements() {

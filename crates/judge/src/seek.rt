@@ -3,17 +3,12 @@
 // found in the same slot, which is all that counting needs.
 use paired::Sent;
 use paired::same;
+use word::wide;
 ghost use mathlib.Core.Path.{_≡_};
 ghost use Prim.Native.Nat.{_+_, _*_, _/_, _%_, _<_, _≤_};
 ghost use Rattle.rules.specs.Bus.{sameTuple};
 ghost use Rattle.paired.specs.Slots.{tupleOf};
 ghost use Rattle.judge.specs.Window.{tupleAt, atMost, stepped, placeOf, slotOf};
-
-fn wide(x: u32) -> u64
-    ensures { λ r. ⌜ (r ≡ x) × (r < 4294967296) ⌝ }
-{
-    x as u64
-}
 
 // Two words in a number.
 fn joined(high: u32, low: u32) -> u64

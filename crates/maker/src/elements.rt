@@ -1,8 +1,8 @@
 // The result of an extension instruction over the drawn cells.
+use element::peq;
+use element::product;
+use element::sum;
 use form::Op;
-use word::peq;
-use word::product;
-use word::sum;
 ghost use mathlib.Core.Path.{_≡_};
 ghost use Prim.Native.Nat.{_+_, _*_, _%_, _≤_, _<_};
 ghost use Rattle.machine.specs.Extension.{elementAt, leftAt, rightAt, termOf, joined, nothing, result};

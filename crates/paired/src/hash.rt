@@ -1,6 +1,6 @@
 // Where a tuple goes: its class is its round's, its slot the first that is tried. All that is proved of them is that the class is the tuple's alone.
 use crate::Sent;
-use crate::tuple::wide;
+use word::wide;
 ghost use mathlib.Core.Path.{_≡_};
 ghost use Prim.Native.Nat.{_<_};
 ghost use Rattle.paired.specs.Slots.{tupleOf, hashOf, classOf};

@@ -5,6 +5,7 @@ use form::Instruction;
 use rows::Exec;
 use rows::Ext;
 use word::P;
+use word::wide;
 use word::word_at;
 ghost use mathlib.Core.Path.{_≡_};
 ghost use Prim.Native.Nat.{_%_, _<_};
@@ -13,12 +14,6 @@ ghost use Rattle.form.specs.Data.{dataOf};
 ghost use Rattle.rows.specs.Rows.{extAt};
 ghost use Rattle.rules.specs.Bus.{sameTuple, pushed, pulled};
 ghost use Rattle.paired.specs.Slots.{tupleOf};
-
-pub fn wide(x: u32) -> u64
-    ensures { λ r. ⌜ (r ≡ x) × (r < 4294967296) ⌝ }
-{
-    x as u64
-}
 
 // (DATA, νA, νB, νC)
 pub fn pushed_tuple(i: Instruction, x: Exec) -> Sent

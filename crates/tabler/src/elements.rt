@@ -1,10 +1,10 @@
 // What an extension instruction asks of its elements.
 use crate::Joined;
 use crate::reads::element_at;
+use element::peq;
+use element::product;
+use element::sum;
 use form::Op;
-use word::peq;
-use word::product;
-use word::sum;
 ghost use mathlib.Core.Path.{_≡_};
 ghost use Prim.Native.Nat.{_/_, _<_, _^_};
 ghost use lib.ListN.{length};

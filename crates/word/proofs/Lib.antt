@@ -5,7 +5,5 @@ pub mod Modulo
 pub mod Primality
 pub mod WordLaws
 pub mod ElementLaws
-pub mod DifferenceLaws
-pub mod Below
-pub mod WholeSums
 pub mod Part
+pub mod Below

@@ -2,4 +2,3 @@ pub mod Word
 pub mod Prime
 pub mod Bytes
 pub mod Element
-pub mod Words

@@ -1,16 +1,8 @@
-// Words modulo p, and extension elements of five words.
+// Words modulo p, and words in bytes.
 mod bytes;
-mod direct;
-mod element;
-mod fold;
 
 pub use bytes::put_word;
 pub use bytes::word_at;
-pub use element::difference;
-pub use element::peq;
-pub use element::scale;
-pub use element::sum;
-pub use fold::product;
 ghost use mathlib.Core.Path.{_≡_};
 ghost use Prim.Native.Nat.{_<_, _%_};
 ghost use Rattle.word.specs.Word.{p, _+ₚ_, _-ₚ_, _*ₚ_};
@@ -18,13 +10,13 @@ ghost use Rattle.word.specs.Word.{p, _+ₚ_, _-ₚ_, _*ₚ_};
 // 2^31 - 2^24 + 1
 pub const P: u64 = 2130706433;
 
-fn wide(x: u32) -> u64
+pub fn wide(x: u32) -> u64
     ensures { λ r. ⌜ (r ≡ x) × (r < 4294967296) ⌝ }
 {
     x as u64
 }
 
-fn reduced(x: u64) -> u32
+pub fn reduced(x: u64) -> u32
     ensures { λ r. ⌜ (r ≡ x % p) × (r < p) ⌝ }
 {
     (x % P) as u32

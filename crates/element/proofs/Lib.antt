@@ -1,0 +1,2 @@
+pub mod WholeSums
+pub mod DifferenceLaws

@@ -1,0 +1,27 @@
+-- `word::direct::seventh` meets its contract: one sum, reduced once.
+-- Assumes nothing.
+use borrow.Author.Needs.{needs}
+use mathlib.Core.Path.{_∙_}
+use Rattle.word.specs.Element.{nine}
+use Rattle.element.proofs.WholeSums.{joined}
+use Rattle.element.proofs.direct.seventh.Statement.{statement}
+use Rattle.element.proofs.direct.seventh.Tie as tie
+
+returns : tie.Need-returns
+unfolding nine
+returns c =
+    (c .reduced .ensures .0 ∙ joined _ _ (c .before .before .times .ensures .0) (c .before .times2 .ensures .0), c .reduced .ensures .1)
+
+pub seventh-spec : {M : Type 1} → statement M
+seventh-spec =
+    tie.close
+    (tie.spec
+    (λ c. search needs)
+    (λ c. search needs)
+    (λ c κs. search needs)
+    (λ c. search needs)
+    (λ c. search needs)
+    (λ c κs. search needs)
+    (λ c. search needs)
+    (λ c κs. search needs)
+    returns)
