@@ -3,3 +3,4 @@ pub mod DataLaws
 pub mod Forms
 pub mod Opcodes
 pub mod Part
+pub mod Fours

@@ -5,7 +5,7 @@ use mathlib.Core.List.{List, _++_}
 use Prim.Native.Nat.{ℕ, _+_, _≤_}
 use native.Mathlib.Nat.{add-zero, add-assoc}
 use native.Mathlib.Omega.{arith}
-use lib.ListN.{length, take, drop}
+use lib.ListN.{length, getD, take, drop}
 use lib.Seq.{getD-drop, drop-append-seam}
 use Rattle.word.proofs.Lists.{_∷≡_}
 use Rattle.word.proofs.Part.{word-part}
@@ -71,6 +71,26 @@ module _ (s : List ℕ) (at : ℕ) where
   unfolding extAt
   ext-drop =
       ext-made (drop at s) 0 first-word (word-drop 4) (word-drop 8) (word-drop 12) (word-drop 16) (word-drop 20) (word-drop 24) (word-drop 28) (word-drop 32) (word-drop 36) (five-drop 40) (five-drop 60) (five-drop 80) (five-drop 100)
+
+-- the same of five words each: the ten words before the elements are two fives
+module _ (s : List ℕ) (at : ℕ) where
+  later : (k n m : ℕ) → k + n ≡ m → wordAt s (at + k + n) ≡ wordAt s (at + m)
+  later k n m e = ap (wordAt s) (add-assoc at k n ∙ ap (λ (j : ℕ). at + j) e)
+
+  pub ext-of-fives : {f g a0 a1 a2 a3 : List ℕ}
+      → f ≡ fiveAt s at
+      → g ≡ fiveAt s (at + 20)
+      → a0 ≡ fiveAt s (at + 40)
+      → a1 ≡ fiveAt s (at + 60)
+      → a2 ≡ fiveAt s (at + 80)
+      → a3 ≡ fiveAt s (at + 100)
+      → record { start = getD f 0 0; add = getD f 1 0; mul = getD f 2 0; peq = getD f 3 0; len = getD f 4 0; idxA = getD g 0 0; idxB = getD g 1 0; idxR = getD g 2 0; be = getD g 3 0; base = getD g 4 0; vA = a0; vB = a1; comp = a2; res = a3 } ≡ extAt s at
+  unfolding fiveAt extAt
+  ext-of-fives ef eg e0 e1 e2 e3 =
+      ext-made s at (nth ef 0) (nth ef 1) (nth ef 2) (nth ef 3) (nth ef 4) (nth eg 0) (nth eg 1 ∙ later 20 4 24 refl) (nth eg 2 ∙ later 20 8 28 refl) (nth eg 3 ∙ later 20 12 32 refl) (nth eg 4 ∙ later 20 16 36 refl) e0 e1 e2 e3
+    where
+      nth : {x y : List ℕ} → x ≡ y → (k : ℕ) → getD x k 0 ≡ getD y k 0
+      nth e k = ap (λ (z : List ℕ). getD z k 0) e
 
 -- behind other bytes
 pub exec-behind : (front s : List ℕ) → execAt (front ++ s) (length front) ≡ execAt s 0

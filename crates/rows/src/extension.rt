@@ -75,17 +75,19 @@ pub fn ext_row(s: &[u8], at: usize) -> Ext
     if s.len() - 120 < at {
         return ext_near_end(s, at);
     }
+    let first = five_inside(s, at);
+    let second = five_inside(s, at + 20);
     Ext {
-        start: word_inside(s, at),
-        add: word_inside(s, at + 4),
-        mul: word_inside(s, at + 8),
-        peq: word_inside(s, at + 12),
-        len: word_inside(s, at + 16),
-        idxA: word_inside(s, at + 20),
-        idxB: word_inside(s, at + 24),
-        idxR: word_inside(s, at + 28),
-        be: word_inside(s, at + 32),
-        base: word_inside(s, at + 36),
+        start: first[0],
+        add: first[1],
+        mul: first[2],
+        peq: first[3],
+        len: first[4],
+        idxA: second[0],
+        idxB: second[1],
+        idxR: second[2],
+        be: second[3],
+        base: second[4],
         vA: five_inside(s, at + 40),
         vB: five_inside(s, at + 60),
         comp: five_inside(s, at + 80),

@@ -1,26 +1,18 @@
--- One test covers the row; each column is the word, each element the five words that its call read.
+-- One test covers the row; each column is one of the five words that its call read.
 use borrow.Author.Needs.{needs}
-use Rattle.rows.proofs.Reading.{ext-made}
+use Rattle.rows.proofs.Reading.{ext-of-fives}
 use Rattle.rows.proofs.extension.ext_row.Statement.{statement}
 use Rattle.rows.proofs.extension.ext_row.Tie as tie
 
 returns-3 : tie.Need-returns-3
 returns-3 c =
-    ext-made (c .before .before .before .before .before .before .before .before .before .before .before .before .before .before .before .before .before .args .s .now) (c .before .before .before .before .before .before .before .before .before .before .before .before .before .before .before .before .before .args .at)
-    (c .before .before .before .before .before .before .before .before .before .before .before .before .before .word-inside .ensures)
-    (c .before .before .before .before .before .before .before .before .before .before .before .before .word-inside2 .ensures)
-    (c .before .before .before .before .before .before .before .before .before .before .before .word-inside3 .ensures)
-    (c .before .before .before .before .before .before .before .before .before .before .word-inside4 .ensures)
-    (c .before .before .before .before .before .before .before .before .before .word-inside5 .ensures)
-    (c .before .before .before .before .before .before .before .before .word-inside6 .ensures)
-    (c .before .before .before .before .before .before .before .word-inside7 .ensures)
-    (c .before .before .before .before .before .before .word-inside8 .ensures)
-    (c .before .before .before .before .before .word-inside9 .ensures)
-    (c .before .before .before .before .word-inside10 .ensures)
-    (c .before .before .before .five-inside .ensures)
-    (c .before .before .five-inside2 .ensures)
-    (c .before .five-inside3 .ensures)
-    (c .five-inside4 .ensures)
+    ext-of-fives (c .before .before .before .before .before .before .before .before .before .args .s .now) (c .before .before .before .before .before .before .before .before .before .args .at)
+    (c .before .before .before .before .before .five-inside .ensures)
+    (c .before .before .before .before .five-inside2 .ensures)
+    (c .before .before .before .five-inside3 .ensures)
+    (c .before .before .five-inside4 .ensures)
+    (c .before .five-inside5 .ensures)
+    (c .five-inside6 .ensures)
 
 pub ext-row-spec : {M : Type 1} → statement M
 ext-row-spec =
@@ -35,21 +27,15 @@ ext-row-spec =
     (λ c. search needs)
     (λ c κs. search needs)
     (λ c. search needs)
-    (λ c κs. search needs)
     (λ c. search needs)
-    (λ c κs. search needs)
     (λ c. search needs)
-    (λ c κs. search needs)
     (λ c. search needs)
-    (λ c κs. search needs)
     (λ c. search needs)
-    (λ c κs. search needs)
     (λ c. search needs)
-    (λ c κs. search needs)
     (λ c. search needs)
-    (λ c κs. search needs)
     (λ c. search needs)
-    (λ c κs. search needs)
+    (λ c. search needs)
+    (λ c. search needs)
     (λ c. search needs)
     (λ c κs. search needs)
     (λ c. search needs)
