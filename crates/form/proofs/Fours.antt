@@ -1,14 +1,11 @@
 -- Three times four words are the instruction's twelve.
 -- Assumes nothing.
 use mathlib.Core.Path.{_≡_, refl, ap, _∙_}
-use mathlib.Core.List.{List, [], _∷_}
-use Prim.Native.Nat.{ℕ, _+_, _≤_}
+use mathlib.Core.List.{List}
+use Prim.Native.Nat.{ℕ, _+_}
 use native.Mathlib.Nat.{add-assoc}
-use native.Mathlib.Omega.{arith}
-use lib.ListN.{length, getD}
+use lib.ListN.{getD}
 use Rattle.word.specs.Bytes.{wordAt}
-use Rattle.word.proofs.FourBytes.{past}
-use Rattle.word.proofs.Lists.{_∷≡_}
 use Rattle.form.specs.Fours.{fourAt, ofFours}
 use Rattle.form.specs.Instruction.{instructionAt}
 
@@ -36,8 +33,3 @@ module _ (s : List ℕ) (at : ℕ) where
     where
       nth : {x y : List ℕ} → x ≡ y → (k : ℕ) → getD x k 0 ≡ getD y k 0
       nth e k = ap (λ (z : List ℕ). getD z k 0) e
-
--- past the end each word is 0
-pub four-past : (s : List ℕ) (at : ℕ) → length s ≤ at → 0 ∷ 0 ∷ 0 ∷ 0 ∷ [] ≡ fourAt s at
-unfolding fourAt
-four-past s at h = past s at h ∷≡ past s (at + 4) (omega arith) ∷≡ past s (at + 8) (omega arith) ∷≡ past s (at + 12) (omega arith) ∷≡ refl

@@ -1,8 +1,9 @@
 // The 12 words of an instruction, read from the program's bytes.
 use crate::Instruction;
+use word::rest;
 use word::word_at;
 ghost use mathlib.Core.Path.{_≡_};
-ghost use Prim.Native.Nat.{_+_, _≤_, _<_, _^_};
+ghost use Prim.Native.Nat.{_+_, _≤_, _<_};
 ghost use lib.ListN.{length};
 ghost use Rattle.word.specs.Bytes.{wordAt};
 ghost use Rattle.form.specs.Fours.{fourAt, ofFours};
@@ -34,19 +35,6 @@ fn four_inside(s: &[u8], at: usize) -> [u32; 4]
     ]
 }
 
-// The same where bytes may be past the end.
-fn four_short(s: &[u8], at: usize) -> [u32; 4]
-    requires { ⌜ at + 12 < 2 ^ 64 ⌝ }
-    ensures { λ r. ⌜ r ≡ fourAt (now (s .entry)) at ⌝ }
-{
-    [
-        word_at(s, at),
-        word_at(s, at + 4),
-        word_at(s, at + 8),
-        word_at(s, at + 12),
-    ]
-}
-
 // The 12 words by their names.
 fn named(first: [u32; 4], second: [u32; 4], third: [u32; 4]) -> Instruction
     ensures { λ r. ⌜ r ≡ ofFours first second third ⌝ }
@@ -67,18 +55,31 @@ fn named(first: [u32; 4], second: [u32; 4], third: [u32; 4]) -> Instruction
     }
 }
 
-// The instruction where its bytes may run past the end.
+// The first instruction, where bytes of it may be past the end.
+fn first_short(s: &[u8]) -> Instruction
+    ensures { λ r. ⌜ r ≡ instructionAt (now (s .entry)) 0 ⌝ }
+{
+    Instruction {
+        a: word_at(s, 0),
+        b: word_at(s, 4),
+        c: word_at(s, 8),
+        fa: word_at(s, 12),
+        fb: word_at(s, 16),
+        fc: word_at(s, 20),
+        fpc: word_at(s, 24),
+        fpab: word_at(s, 28),
+        mul: word_at(s, 32),
+        jump: word_at(s, 36),
+        aux: word_at(s, 40),
+        data: word_at(s, 44),
+    }
+}
+
+// The instruction where bytes of it may be past the end.
 fn instruction_near_end(s: &[u8], at: usize) -> Instruction
     ensures { λ r. ⌜ r ≡ instructionAt (now (s .entry)) at ⌝ }
 {
-    if s.len() <= at {
-        return named([0, 0, 0, 0], [0, 0, 0, 0], [0, 0, 0, 0]);
-    }
-    named(
-        four_short(s, at),
-        four_short(s, at + 16),
-        four_short(s, at + 32),
-    )
+    first_short(rest(s, at))
 }
 
 // The instruction that starts at a byte; bytes past the end count as 0.

@@ -5,7 +5,6 @@ mod in_order;
 mod seek;
 mod sender;
 mod stage;
-mod table;
 mod tuple;
 mod window;
 

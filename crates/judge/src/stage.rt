@@ -1,13 +1,13 @@
 // The stages after the sizes, each an early answer or the next stage. A start is 64 bits wide and is compared whole.
 use crate::bus::bus_answer;
-use crate::table::exec_row_failing;
-use crate::table::ext_row_failing;
-use crate::table::first_exec;
-use crate::table::first_ext;
 use answer::Answer;
 use parts::first_malformed;
 use parts::first_word;
 use rows::exec_row;
+use walks::exec_rule;
+use walks::ext_rule;
+use walks::first_exec;
+use walks::first_ext;
 ghost use mathlib.Core.Path.{_≡_};
 ghost use Prim.Native.Nat.{_<_, _^_};
 ghost use Rattle.rules.specs.Satisfies.{Words};
@@ -22,7 +22,7 @@ fn rules_answer(program: &[u8], memory: &[u8], exec: &[u8], ext: &[u8]) -> Answe
 {
     let r = first_exec(program, memory, exec);
     if r < exec.len() / 32 {
-        let rule = exec_row_failing(program, memory, exec, r);
+        let rule = exec_rule(program, memory, exec, r);
         return Answer::Exec {
             row: r as u32,
             rule,
@@ -30,7 +30,7 @@ fn rules_answer(program: &[u8], memory: &[u8], exec: &[u8], ext: &[u8]) -> Answe
     }
     let k = first_ext(memory, ext);
     if k < ext.len() / 120 {
-        let rule = ext_row_failing(memory, ext, k);
+        let rule = ext_rule(memory, ext, k);
         return Answer::Extension {
             row: k as u32,
             rule,

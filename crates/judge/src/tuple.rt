@@ -1,5 +1,4 @@
 // How often a row pushes or pulls, and whether two rows do the same tuple.
-use crate::table::ext_at;
 use form::Instruction;
 use form::instruction_at;
 use paired::pulled_tuple;
@@ -7,6 +6,7 @@ use paired::pushed_tuple;
 use paired::same;
 use rows::Exec;
 use rows::Ext;
+use rows::ext_row;
 use word::word_at;
 ghost use mathlib.Core.Path.{_≡_};
 ghost use mathlib.Core.Bool.{_&&_};
@@ -41,13 +41,14 @@ pub fn pushing(program: &[u8], exec: &[u8], r: usize) -> bool
     (i.mul == 0) & (i.jump == 0) & (i.aux == 0)
 }
 
-// Extension row k.
+// Extension row k, read from its own bytes with no test.
 pub fn flagged_row(ext: &[u8], k: usize) -> Ext
     requires { ⌜ Flagged (now ext) ⌝ }
     requires { ⌜ k < length (now ext) / 120 ⌝ }
     ensures { λ y. ⌜ (y ≡ extAt (now (ext .entry)) (120 * k)) × Flags y ⌝ }
 {
-    ext_at(ext, k)
+    let at = 120 * k;
+    ext_row(&ext[at..at + 120], 0)
 }
 
 // How often a row pulls: the whole number, not 0 or 1.

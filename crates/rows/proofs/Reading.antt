@@ -2,13 +2,13 @@
 -- Assumes nothing.
 use mathlib.Core.Path.{_≡_, refl, sym, ap, _∙_}
 use mathlib.Core.List.{List, _++_}
-use Prim.Native.Nat.{ℕ, _+_, _≤_}
+use Prim.Native.Nat.{ℕ, _+_, _-_, _≤_}
 use native.Mathlib.Nat.{add-zero, add-assoc}
 use native.Mathlib.Omega.{arith}
 use lib.ListN.{length, getD, take, drop}
 use lib.Seq.{getD-drop, drop-append-seam}
 use Rattle.word.proofs.Lists.{_∷≡_}
-use Rattle.word.proofs.Part.{word-part}
+use Rattle.word.proofs.Part.{word-part, word-drop, first-word}
 use Rattle.word.specs.Bytes.{wordAt}
 use Rattle.rows.specs.Rows.{execAt, fiveAt, extAt}
 
@@ -49,28 +49,22 @@ module _ (s : List ℕ) (at : ℕ) where
       record { start = e0 i; add = e1 i; mul = e2 i; peq = e3 i; len = e4 i; idxA = e5 i; idxB = e6 i; idxR = e7 i; be = e8 i; base = e9 i; vA = f0 i; vB = f1 i; comp = f2 i; res = f3 i }
 
 module _ (s : List ℕ) (at : ℕ) where
-  word-drop : (k : ℕ) → wordAt s (at + k) ≡ wordAt (drop at s) k
-  word-drop k = simp (getD-drop, add-assoc)
-
-  first-word : wordAt s at ≡ wordAt (drop at s) 0
-  first-word = rw (add-zero at) at (word-drop 0)
-
   five-drop : (k : ℕ) → fiveAt s (at + k) ≡ fiveAt (drop at s) k
   unfolding fiveAt
-  five-drop k = word-drop k ∷≡ next 4 ∷≡ next 8 ∷≡ next 12 ∷≡ next 16 ∷≡ refl
+  five-drop k = word-drop s at k ∷≡ next 4 ∷≡ next 8 ∷≡ next 12 ∷≡ next 16 ∷≡ refl
     where
       next : (n : ℕ) → wordAt s (at + k + n) ≡ wordAt (drop at s) (k + n)
-      next n = ap (wordAt s) (add-assoc at k n) ∙ word-drop (k + n)
+      next n = ap (wordAt s) (add-assoc at k n) ∙ word-drop s at (k + n)
 
   pub exec-drop : execAt s at ≡ execAt (drop at s) 0
   unfolding execAt
   exec-drop =
-      exec-made (drop at s) 0 first-word (word-drop 4) (word-drop 8) (word-drop 12) (word-drop 16) (word-drop 20) (word-drop 24) (word-drop 28)
+      exec-made (drop at s) 0 (first-word s at) (word-drop s at 4) (word-drop s at 8) (word-drop s at 12) (word-drop s at 16) (word-drop s at 20) (word-drop s at 24) (word-drop s at 28)
 
   pub ext-drop : extAt s at ≡ extAt (drop at s) 0
   unfolding extAt
   ext-drop =
-      ext-made (drop at s) 0 first-word (word-drop 4) (word-drop 8) (word-drop 12) (word-drop 16) (word-drop 20) (word-drop 24) (word-drop 28) (word-drop 32) (word-drop 36) (five-drop 40) (five-drop 60) (five-drop 80) (five-drop 100)
+      ext-made (drop at s) 0 (first-word s at) (word-drop s at 4) (word-drop s at 8) (word-drop s at 12) (word-drop s at 16) (word-drop s at 20) (word-drop s at 24) (word-drop s at 28) (word-drop s at 32) (word-drop s at 36) (five-drop 40) (five-drop 60) (five-drop 80) (five-drop 100)
 
 -- the same of five words each: the ten words before the elements are two fives
 module _ (s : List ℕ) (at : ℕ) where
@@ -122,3 +116,14 @@ module _ (s : List ℕ) (at : ℕ) where
     where
       word : (k : ℕ) → k + 4 ≤ 120 → wordAt (take 120 (drop at s)) k ≡ wordAt s (at + k)
       word = word-part s at 120
+
+-- the same of a part that is lent by its start and its end
+pub exec-lent : (s : List ℕ) (at : ℕ) → execAt (take (at + 32 - at) (drop at s)) 0 ≡ execAt s at
+exec-lent s at =
+    let size : at + 32 - at ≡ 32 = omega arith in
+    ap (λ (n : ℕ). execAt (take n (drop at s)) 0) size ∙ exec-part s at
+
+pub ext-lent : (s : List ℕ) (at : ℕ) → extAt (take (at + 120 - at) (drop at s)) 0 ≡ extAt s at
+ext-lent s at =
+    let size : at + 120 - at ≡ 120 = omega arith in
+    ap (λ (n : ℕ). extAt (take n (drop at s)) 0) size ∙ ext-part s at

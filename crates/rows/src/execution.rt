@@ -1,8 +1,8 @@
 // Execution rows.
 use crate::Exec;
-use crate::rest;
 use crate::word_inside;
 use word::put_word;
+use word::rest;
 use word::word_at;
 ghost use mathlib.Core.Path.{_≡_};
 ghost use Rattle.rows.specs.Rows.{execAt, execWords, putRow};

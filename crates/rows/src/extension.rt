@@ -1,8 +1,8 @@
 // Extension rows.
 use crate::Ext;
-use crate::rest;
 use crate::word_inside;
 use word::put_word;
+use word::rest;
 use word::word_at;
 ghost use mathlib.Core.Path.{_≡_};
 ghost use Prim.Native.Nat.{_+_, _≤_, _<_, _^_};

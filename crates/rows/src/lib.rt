@@ -8,7 +8,7 @@ pub use extension::ext_row;
 pub use extension::put_ext;
 ghost use mathlib.Core.Path.{_≡_};
 ghost use Prim.Native.Nat.{_+_, _≤_, _<_};
-ghost use lib.ListN.{length, drop};
+ghost use lib.ListN.{length};
 ghost use Rattle.word.specs.Bytes.{wordAt};
 
 // A row of the execution table: 8 words in this order.
@@ -53,15 +53,4 @@ fn word_inside(s: &[u8], at: usize) -> u32
     ensures { λ r. ⌜ r ≡ wordAt (now (s .entry)) at ⌝ }
 {
     wide(s[at]) + 256 * wide(s[at + 1]) + 65536 * wide(s[at + 2]) + 16777216 * wide(s[at + 3])
-}
-
-// What is left of the buffer from a byte on.
-fn rest(s: &[u8], at: usize) -> &[u8]
-    ensures { λ r. ⌜ now r ≡ drop at (now (s .entry)) ⌝ }
-{
-    if at < s.len() {
-        return &s[at..];
-    }
-    let end = s.len();
-    &s[end..]
 }

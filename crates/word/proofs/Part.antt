@@ -16,3 +16,10 @@ module _ (s : List ℕ) (at n : ℕ) where
   pub word-part : (k : ℕ) → k + 4 ≤ n → wordAt (take n (drop at s)) k ≡ wordAt s (at + k)
   word-part k h =
       rw (byte-part k (omega arith), byte-part (k + 1) (omega arith), byte-part (k + 2) (omega arith), byte-part (k + 3) (omega arith), add-assoc at k 1, add-assoc at k 2, add-assoc at k 3)
+
+-- the same of what is left from a byte on
+pub word-drop : (s : List ℕ) (at k : ℕ) → wordAt s (at + k) ≡ wordAt (drop at s) k
+word-drop s at k = simp (getD-drop, add-assoc)
+
+pub first-word : (s : List ℕ) (at : ℕ) → wordAt s at ≡ wordAt (drop at s) 0
+first-word s at = rw (add-zero at) at (word-drop s at 0)

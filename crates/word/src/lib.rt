@@ -2,6 +2,7 @@
 mod bytes;
 
 pub use bytes::put_word;
+pub use bytes::rest;
 pub use bytes::word_at;
 ghost use mathlib.Core.Path.{_≡_};
 ghost use Prim.Native.Nat.{_<_, _%_};

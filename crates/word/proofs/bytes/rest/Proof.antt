@@ -6,8 +6,8 @@ use Prim.Native.Nat.{ℕ, _-_, _≤_}
 use native.Mathlib.Omega.{arith}
 use lib.ListN.{length, take, drop, length-drop, drop-of-length-le}
 use lib.Seq.{take-all, drop-length}
-use Rattle.rows.proofs.rest.Statement.{statement}
-use Rattle.rows.proofs.rest.Tie as tie
+use Rattle.word.proofs.bytes.rest.Statement.{statement}
+use Rattle.word.proofs.bytes.rest.Tie as tie
 
 whole : (at : ℕ) (s : List ℕ) → take (length s - at) (drop at s) ≡ drop at s
 whole at s = take-all (length s - at) (drop at s) (omega (arith, length-drop at s))

@@ -15,8 +15,8 @@ use Rattle.checks.specs.ExtParts.{extFails}
 use Rattle.judged.specs.Judged.{extFailing, firstExt}
 use Rattle.rules.specs.Sizes.{given, tables}
 use Rattle.parts.proofs.Walks.{Walk, begins, goes-past, finds, finds-none}
-use Rattle.judge.proofs.table.first_ext.Statement.{statement}
-use Rattle.judge.proofs.table.first_ext.Tie as tie
+use Rattle.walks.proofs.first_ext.Statement.{statement}
+use Rattle.walks.proofs.first_ext.Tie as tie
 
 -- the rules of the rows that are carried are the row's
 same-rules : (memory ext : List ℕ) (r : ℕ) (x y : Ext)

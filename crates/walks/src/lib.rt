@@ -12,7 +12,7 @@ use rows::ext_row;
 ghost use mathlib.Core.Path.{_≡_};
 ghost use mathlib.Core.Bool.{true};
 ghost use mathlib.Core.List.{[]};
-ghost use Prim.Native.Nat.{_*_, _/_, _<_};
+ghost use Prim.Native.Nat.{_*_, _/_, _<_, _≤_};
 ghost use lib.ListN.{length};
 ghost use Rattle.form.specs.Instruction.{instructionAt};
 ghost use Rattle.rows.specs.Rows.{execAt, extAt};
@@ -39,7 +39,7 @@ fn exec_at(exec: &[u8], r: usize) -> Exec
 }
 
 // Extension row r, likewise.
-pub fn ext_at(ext: &[u8], r: usize) -> Ext
+fn ext_at(ext: &[u8], r: usize) -> Ext
     requires { ⌜ r < length (now ext) / 120 ⌝ }
     ensures { λ x. ⌜ x ≡ extAt (now (ext .entry)) (120 * r) ⌝ }
 {
@@ -48,7 +48,7 @@ pub fn ext_at(ext: &[u8], r: usize) -> Ext
 }
 
 // The rule that fails on an execution row, 0 where none does.
-pub fn exec_row_failing(program: &[u8], memory: &[u8], exec: &[u8], r: usize) -> u32
+fn exec_row_failing(program: &[u8], memory: &[u8], exec: &[u8], r: usize) -> u32
     requires { ⌜ r < length (now exec) / 32 ⌝ }
     ensures { λ s. ⌜ s ≡ execFailing (given (now (program .entry)) (now (memory .entry))) (tables (now (exec .entry)) []) r ⌝ }
 {
@@ -59,7 +59,7 @@ pub fn exec_row_failing(program: &[u8], memory: &[u8], exec: &[u8], r: usize) ->
 }
 
 // The same of an extension row.
-pub fn ext_row_failing(memory: &[u8], ext: &[u8], r: usize) -> u32
+fn ext_row_failing(memory: &[u8], ext: &[u8], r: usize) -> u32
     requires { ⌜ r < length (now ext) / 120 ⌝ }
     ensures { λ s. ⌜ s ≡ extFailing (given [] (now (memory .entry))) (tables [] (now (ext .entry))) r ⌝ }
 {
@@ -119,4 +119,30 @@ pub fn first_ext(memory: &[u8], ext: &[u8]) -> usize
         r += 1;
     }
     r
+}
+
+// The rule that fails on execution row r; 0 where none does or there is no such row.
+pub fn exec_rule(program: &[u8], memory: &[u8], exec: &[u8], r: usize) -> u32
+    ensures { λ s. ⌜
+        (r < length (now (exec .entry)) / 32 → s ≡ execFailing (given (now (program .entry)) (now (memory .entry))) (tables (now (exec .entry)) []) r)
+        × (length (now (exec .entry)) / 32 ≤ r → s ≡ 0)
+        ⌝ }
+{
+    if r < exec.len() / 32 {
+        return exec_row_failing(program, memory, exec, r);
+    }
+    0
+}
+
+// The same of extension row r.
+pub fn ext_rule(memory: &[u8], ext: &[u8], r: usize) -> u32
+    ensures { λ s. ⌜
+        (r < length (now (ext .entry)) / 120 → s ≡ extFailing (given [] (now (memory .entry))) (tables [] (now (ext .entry))) r)
+        × (length (now (ext .entry)) / 120 ≤ r → s ≡ 0)
+        ⌝ }
+{
+    if r < ext.len() / 120 {
+        return ext_row_failing(memory, ext, r);
+    }
+    0
 }

@@ -1,8 +1,8 @@
 -- The row that is read, and the row paired with it, are those of the definition; its rules are the groups that the code walks.
 use borrow.Author.Needs.{needs}
 use Rattle.rules.specs.Extension.{extRules}
-use Rattle.judge.proofs.table.ext_row_failing.Statement.{statement}
-use Rattle.judge.proofs.table.ext_row_failing.Tie as tie
+use Rattle.walks.proofs.ext_row_failing.Statement.{statement}
+use Rattle.walks.proofs.ext_row_failing.Tie as tie
 
 returns : tie.Need-returns
 unfolding extRules

@@ -5,8 +5,8 @@ use mathlib.Core.Path.{_≡_, _∙_}
 use Prim.Native.Nat.{_*_}
 use Rattle.form.specs.Instruction.{instructionAt}
 use Rattle.form.proofs.Part.{instruction-lent}
-use Rattle.judge.proofs.table.exec_pair_holds.Statement.{statement}
-use Rattle.judge.proofs.table.exec_pair_holds.Tie as tie
+use Rattle.walks.proofs.exec_pair_holds.Statement.{statement}
+use Rattle.walks.proofs.exec_pair_holds.Tie as tie
 
 returns-2 : tie.Need-returns-2
 returns-2 c e =

@@ -1,8 +1,8 @@
 -- Each branch is a case of the test in `next`.
 use borrow.Author.Needs.{needs}
 use borrow.Author.Tests.{lt-ltb, le-ltb}
-use Rattle.judge.proofs.table.paired.Statement.{statement}
-use Rattle.judge.proofs.table.paired.Tie as tie
+use Rattle.walks.proofs.paired.Statement.{statement}
+use Rattle.walks.proofs.paired.Tie as tie
 
 returns : tie.Need-returns
 returns c = (rw (lt-ltb _ _ (c .if1 .taken)), search needs)

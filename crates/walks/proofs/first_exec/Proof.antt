@@ -16,8 +16,8 @@ use Rattle.checks.specs.Parts.{execFails}
 use Rattle.judged.specs.Judged.{execFailing, firstExec}
 use Rattle.rules.specs.Sizes.{given, tables}
 use Rattle.parts.proofs.Walks.{Walk, begins, goes-past, finds, finds-none}
-use Rattle.judge.proofs.table.first_exec.Statement.{statement}
-use Rattle.judge.proofs.table.first_exec.Tie as tie
+use Rattle.walks.proofs.first_exec.Statement.{statement}
+use Rattle.walks.proofs.first_exec.Tie as tie
 
 -- the rules of the rows that are carried are the row's
 same-rules : (program memory exec : List ℕ) (r : ℕ) (x y : Exec)
