@@ -1,6 +1,6 @@
 // Tuples of the bus: what a row pushes or pulls.
 use crate::Sent;
-use checks::selected;
+use exec_checks::selected;
 use form::Instruction;
 use rows::Exec;
 use rows::Ext;

@@ -1,9 +1,9 @@
 // One walk over each table: the first row with a rule that fails. Each row is tried by plain comparisons; only where they don't settle it are the
 // polynomials taken. An extension row is read once, and kept for the row before; of the next execution row only pc and fp are read.
-use checks::exec_failing;
-use checks::exec_holds;
-use checks::ext_failing;
-use checks::ext_holds;
+use exec_checks::exec_failing;
+use exec_checks::exec_holds;
+use ext_checks::ext_failing;
+use ext_checks::ext_holds;
 use form::instruction_at;
 use rows::Exec;
 use rows::Ext;
@@ -17,7 +17,7 @@ ghost use lib.ListN.{length};
 ghost use Rattle.form.specs.Instruction.{instructionAt};
 ghost use Rattle.rows.specs.Rows.{execAt, extAt};
 ghost use Rattle.rules.specs.Given.{next};
-ghost use Rattle.checks.specs.Parts.{execFails};
+ghost use Rattle.exec_checks.specs.Parts.{execFails};
 ghost use Rattle.judged.specs.Judged.{execFailing, extFailing, firstExec, firstExt};
 ghost use Rattle.rules.specs.Sizes.{given, tables};
 

@@ -12,7 +12,7 @@ use Rattle.rows.specs.Rows.{execAt}
 use Rattle.rows.specs.declared.Exec.{Exec}
 use Rattle.rules.specs.Given.{zero?, next}
 use Rattle.rules.specs.Execution.{execRules}
-use Rattle.checks.specs.Parts.{execFails}
+use Rattle.exec_checks.specs.Parts.{execFails}
 use Rattle.judged.specs.Judged.{execFailing, firstExec}
 use Rattle.rules.specs.Sizes.{given, tables}
 use Rattle.parts.proofs.Walks.{Walk, begins, goes-past, finds, finds-none}

@@ -11,7 +11,7 @@ use Rattle.rows.specs.Rows.{extAt}
 use Rattle.rows.specs.declared.Ext.{Ext}
 use Rattle.rules.specs.Given.{zero?, next}
 use Rattle.rules.specs.Extension.{extRules}
-use Rattle.checks.specs.ExtParts.{extFails}
+use Rattle.ext_checks.specs.ExtParts.{extFails}
 use Rattle.judged.specs.Judged.{extFailing, firstExt}
 use Rattle.rules.specs.Sizes.{given, tables}
 use Rattle.parts.proofs.Walks.{Walk, begins, goes-past, finds, finds-none}

@@ -1,4 +1,0 @@
-pub mod Shut
-pub mod Quick
-pub mod QuickExec
-pub mod QuickExt
