@@ -1,9 +1,7 @@
 -- What was looked at is what the step asks and the row shows: of operand B by the kind.
 -- Assumes nothing.
-use mathlib.Core.Bool.{Bool, true, false, _&&_, and-true}
-use mathlib.Core.List.{List}
+use mathlib.Core.Bool.{true, false, _&&_, and-true}
 use mathlib.Core.Path.{_≡_, refl, sym, ap, _∙_}
-use Prim.Native.Nat.{ℕ}
 use Rattle.form.specs.declared.Form.{Form}
 use Rattle.form.specs.declared.Kind.the-variants.{Add, Mul, Deref, Jump, Extension}
 use Rattle.form.specs.declared.Kind.{Kind}

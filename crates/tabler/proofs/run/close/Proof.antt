@@ -4,7 +4,6 @@ use borrow.Author.Tests.{not-true, not-false}
 use mathlib.Core.List.{List}
 use mathlib.Core.Path.{ap}
 use Prim.Native.Nat.{ℕ, _*_}
-use native.Mathlib.Omega.{arith}
 use lib.ListN.{length}
 use Rattle.tabler.specs.Placed.{placed}
 use Rattle.tabler.proofs.Running.{open-no}

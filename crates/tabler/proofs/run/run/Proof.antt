@@ -1,8 +1,7 @@
 -- The invariant is `Ran`: the rows before r stand in both tables, and what is left of the run gives the whole answer.
 use borrow.Author.Needs.{needs}
-use borrow.Author.Tests.{not-true, not-false}
 use mathlib.Core.Path.{_≡_, refl, sym, ap, _∙_}
-use Prim.Native.Nat.{_-_, _*_, _/_}
+use Prim.Native.Nat.{_-_, _/_}
 use native.Mathlib.Omega.{arith}
 use lib.ListN.{length}
 use Rattle.form.specs.declared.Form.{Form}
