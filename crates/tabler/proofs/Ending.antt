@@ -16,7 +16,7 @@ use Rattle.tables.specs.Groups.{lengthAt}
 use Rattle.judged.specs.Judged.{choose}
 use Rattle.tabled.specs.Tabled.{sameState, onStep, machineOf, running, heldAfter, tableOf, execAfter, extAfter}
 use Rattle.tabler.specs.Ends.{runOf, Ended, Tabling}
-use Rattle.tabler.specs.Moves.{at}
+use Rattle.terms.specs.Looked.{at}
 
 data Final : Answer → Type 0 where
   is-accepted : Final Accepted

@@ -14,7 +14,8 @@ use Rattle.machine.specs.Extension.{leftSpan, cellsExist}
 use Rattle.machine.specs.Machine.{Machine, State}
 use Rattle.machine.specs.Step.{Outcome, goes, stuck, performs, step}
 use Rattle.tables.specs.Rows.{formAt}
-use Rattle.tabler.specs.Moves.{at, movedOf}
+use Rattle.terms.specs.Looked.{at}
+use Rattle.tabler.specs.Moves.{movedOf}
 use Rattle.tabler.specs.Placed.{Stepped}
 use Rattle.tabler.specs.declared.Moved.the-variants.{Stuck, Goes}
 use Rattle.tabler.specs.declared.Moved.{Moved}

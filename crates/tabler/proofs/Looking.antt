@@ -1,20 +1,15 @@
--- What was looked at is what the step asks and the row shows: of operand B by the kind, of an element by be.
+-- What was looked at is what the step asks and the row shows: of operand B by the kind.
 -- Assumes nothing.
-use mathlib.Core.Bool.{Bool, true, false, _&&_, and-true}
-use mathlib.Core.List.{List}
+use mathlib.Core.Bool.{true, false, _&&_, and-true}
 use mathlib.Core.Path.{_≡_, refl, sym, ap, _∙_}
-use Prim.Native.Nat.{ℕ}
 use Rattle.form.specs.declared.Form.{Form}
 use Rattle.form.specs.declared.Kind.the-variants.{Add, Mul, Deref, Jump, Extension}
 use Rattle.form.specs.declared.Kind.{Kind}
-use Rattle.machine.specs.Extension.{elementAt, leftAt}
 use Rattle.machine.specs.Machine.{Machine, State, value, legal}
 use Rattle.machine.specs.Step.{stuck, targetLegal, performed, performs}
-use Rattle.tables.specs.Groups.{leftIndex}
 use Rattle.tables.specs.Rows.{columnB}
-use Rattle.tabler.specs.Looked.{lookedB, operandsOf}
-use Rattle.tabler.specs.Placed.{leftOf}
-use Rattle.tabler.specs.declared.Operands.{Operands}
+use Rattle.terms.specs.Looked.{lookedB, operandsOf}
+use Rattle.terms.specs.declared.Operands.{Operands}
 
 module _ (m : Machine) (s : State) (f : Form) where
   pub b-legal : (kind : Kind) → lookedB m s f kind .legal ≡ legal m s (f .b) && targetLegal m s f kind
@@ -80,7 +75,3 @@ module _ (m : Machine) (s : State) (f : Form) {o : Operands} (e : o ≡ operands
   pub all-legal : o .a .legal ≡ true → o .b .legal ≡ true → o .c .legal ≡ true
       → performs m s f ≡ performed m s f (f .kind) (o .a .value) (o .b .value) (o .c .value)
   all-legal ha hb hc = rw (← legal-a, ha, ← legal-b, hb, ← legal-c, hc, value-a, value-b, value-c)
-
-pub left-same : (cell : ℕ → ℕ) (be : Bool) (a i : ℕ) → leftOf be (elementAt cell (leftIndex be a i)) ≡ leftAt cell be a i
-left-same cell true a i = refl
-left-same cell false a i = refl

@@ -1,4 +1,3 @@
 pub mod Moves
-pub mod Looked
 pub mod Placed
 pub mod Ends

@@ -6,14 +6,9 @@ use Prim.Native.Nat.{ℕ, _*_, _/_, _≤_, _<_, _^_}
 use lib.ListN.{length}
 use Rattle.form.specs.Form.{wellFormed}
 use Rattle.form.specs.Instruction.{instructionAt}
-use Rattle.machine.specs.Machine.{State}
 use Rattle.machine.specs.Step.{Outcome, goes, stuck}
 use Rattle.tabler.specs.declared.Moved.the-variants.{Stuck, Goes}
 use Rattle.tabler.specs.declared.Moved.{Moved}
-
--- the state of a pc and an fp
-abbrev pub at : ℕ → ℕ → State
-at pc fp = record { pc = pc; fp = fp }
 
 abbrev pub movedOf : Outcome → Moved
 movedOf (goes s) = Goes (s .pc) (s .fp)

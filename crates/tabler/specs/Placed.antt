@@ -1,11 +1,11 @@
 -- The bytes that the code puts in the place of others.
-use mathlib.Core.Bool.{Bool, true, false}
+use mathlib.Core.Bool.{Bool}
 use mathlib.Core.List.{List, _++_}
 use mathlib.Core.Path.{_≡_}
-use Prim.Native.Nat.{ℕ, _+_, _-_, _*_, _≤_}
+use Prim.Native.Nat.{ℕ, _+_, _-_, _*_, _/_, _≤_}
 use lib.Dec.{eqb}
 use lib.ListN.{length, take, drop}
-use Rattle.word.specs.Element.{_⟨_⟩, element}
+use Rattle.word.specs.Element.{_⟨_⟩}
 use Rattle.form.specs.Data.{bit}
 use Rattle.form.specs.declared.Kind.the-variants.{Add, Mul, Deref, Jump, Extension}
 use Rattle.form.specs.declared.Kind.{Kind}
@@ -13,13 +13,12 @@ use Rattle.form.specs.declared.Op.{Op}
 use Rattle.rows.specs.Rows.{bytesOfWords, execWords, extWords}
 use Rattle.rows.specs.declared.Exec.{Exec}
 use Rattle.rows.specs.declared.Ext.{Ext}
-use Rattle.machine.specs.Extension.{elementAt, leftAt, rightAt, termOf, joined}
 use Rattle.machine.specs.Machine.{State}
 use Rattle.machine.specs.Step.{Outcome, goes}
 use Rattle.tables.specs.Bytes.{rowsOf}
 use Rattle.tables.specs.Groups.{flagAdd, flagMul, flagPeq, leftIndex, groupRow, padding, lengthOf}
+use Rattle.terms.specs.declared.Joined.{Joined}
 use Rattle.tabler.specs.Moves.{movedOf}
-use Rattle.tabler.specs.declared.Joined.{Joined}
 use Rattle.tabler.specs.declared.Moved.{Moved}
 
 -- the 32 bytes of an execution row, and the 120 of an extension row
@@ -28,20 +27,6 @@ execBytes x = bytesOfWords (execWords x)
 
 abbrev pub extBytes : Ext → List ℕ
 extBytes x = bytesOfWords (extWords x)
-
--- a_i of its five cells: with be the first alone
-abbrev pub leftOf : Bool → List ℕ → List ℕ
-leftOf true v = element (v ⟨ 0 ⟩)
-leftOf false v = v
-
--- element i of a group, its term joined to what comes after it
-abbrev pub joinedAt : (ℕ → ℕ) → Op → Bool → ℕ → ℕ → ℕ → List ℕ → Joined
-joinedAt cell op be a b i rest =
-    record {
-      left = elementAt cell (leftIndex be a i);
-      right = rightAt cell b i;
-      comp = joined op (termOf op (leftAt cell be a i) (rightAt cell b i)) rest;
-    }
 
 -- row j of a group of its element and the five cells at C
 abbrev pub rowWith : Op → Bool → ℕ → ℕ → ℕ → ℕ → ℕ → Joined → List ℕ → Ext
@@ -78,6 +63,13 @@ kindRows cell kind a b c = rowsOf (λ j. extBytes (kindRow cell kind a b c j)) (
 -- a buffer with other bytes in the place of those from at to end
 abbrev pub placed : List ℕ → ℕ → ℕ → List ℕ → List ℕ
 placed t at end x = take at t ++ (x ++ drop (end - at) (drop at t))
+
+-- padding in the place of all that comes after the rows filled
+abbrev pub padded : (ℕ → ℕ) → ℕ → List ℕ → List ℕ → Type 0
+padded cell filled ext₀ ext =
+    ext
+    ≡ placed ext₀ (120 * filled) (length ext₀)
+    (rowsOf (λ j. extBytes (padding cell)) (length (take (length ext₀ - 120 * filled) (drop (120 * filled) ext₀)) / 120))
 
 -- a step's outcome, with its n rows written after those filled where it goes on and they fit
 pub record Stepped (expected : Outcome) (filled n : ℕ) (rows ext₀ ext : List ℕ) (r : Moved) : Type 0 where

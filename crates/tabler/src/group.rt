@@ -1,12 +1,12 @@
 // The extension rows of a step's group, and the padding.
-use crate::Joined;
-use crate::elements::none;
-use crate::elements::with_element;
-use crate::reads::cell;
-use crate::reads::element_at;
 use form::Op;
 use rows::Ext;
 use rows::put_ext;
+use terms::Joined;
+use terms::cell;
+use terms::element_at;
+use terms::none;
+use terms::with_element;
 ghost use mathlib.Core.Path.{_≡_};
 ghost use Prim.Native.Nat.{_+_, _-_, _*_, _/_, _%_, _<_, _^_};
 ghost use lib.ListN.{length};

@@ -1,9 +1,6 @@
 // The tabler: a program, a memory and a start, to the two tables of the run.
-mod elements;
 mod finish;
 mod group;
-mod look;
-mod reads;
 mod run;
 mod step;
 mod tests;
@@ -20,27 +17,6 @@ ghost use Rattle.tabled.specs.Tabled.{tableOf, execAfter, extAfter};
 enum Moved {
     Stuck { rule: u32 },
     Goes { pc: u32, fp: u32 },
-}
-
-// What a step and its row ask of an operand.
-struct Looked {
-    legal: bool,
-    addr: u32,
-    cell: u32,
-    value: u32,
-}
-
-struct Operands {
-    a: Looked,
-    b: Looked,
-    c: Looked,
-}
-
-// Element i of a group: a_i as five cells, b_i, and the term joined to what comes after it.
-struct Joined {
-    left: [u32; 5],
-    right: [u32; 5],
-    comp: [u32; 5],
 }
 
 // The tabler. SIZE comes first; what is left is table_words's.

@@ -1,16 +1,37 @@
 // The run: H steps, and the rows of each written as it goes.
 use crate::Moved;
 use crate::group::put_padding;
-use crate::look::look_all;
 use crate::step::form_at;
 use crate::step::step_of;
 use crate::write::length_of;
 use crate::write::put_row;
 use answer::Answer;
+use terms::look_all;
+ghost use mathlib.Core.Path.{_≡_};
+ghost use Prim.Native.Nat.{_-_, _*_, _%_, _≤_, _<_, _^_};
 ghost use lib.ListN.{length};
+ghost use Rattle.rules.specs.Sizes.{wordOf};
+ghost use Rattle.judged.specs.Judged.{choose};
 ghost use Rattle.parts.specs.Parts.{Fitting};
 ghost use Rattle.tabler.specs.Ends.{Ended};
 ghost use Rattle.tabler.specs.Moves.{WellFormed};
+ghost use Rattle.tabler.specs.Placed.{padded};
+
+// Every row is written: the last step has to stay, and past the last group is padding.
+fn close(memory: &[u8], height: usize, stays: bool, filled: usize, ext: &mut [u8]) -> Answer
+    requires { ⌜ (0 < height) × (height < 2 ^ 32) × (120 * filled ≤ length (now ext)) × (length (now ext) % 120 ≡ 0) ⌝ }
+    ensures { λ r. ⌜ r ≡ choose stays Answer.Accepted (Answer.Open (height - 1)) ⌝ }
+    ensures { λ r. ⌜ (r ≡ Answer.Accepted → padded (wordOf (now (memory .entry))) filled (now (ext .entry)) (now (ext .exit))) ⌝ }
+{
+    if !stays {
+        return Answer::Open {
+            row: (height - 1) as u32,
+        };
+    }
+    let from = 120 * filled;
+    put_padding(memory, &mut ext[from..]);
+    Answer::Accepted
+}
 
 // Stuck or no room at a row, open at the last, or both tables filled. A refusal leaves them half written.
 pub fn run(
@@ -55,12 +76,5 @@ pub fn run(
         }
         r += 1;
     }
-    if !stays {
-        return Answer::Open {
-            row: (height - 1) as u32,
-        };
-    }
-    let from = 120 * filled;
-    put_padding(memory, &mut ext[from..]);
-    Answer::Accepted
+    close(memory, height, stays, filled, ext)
 }

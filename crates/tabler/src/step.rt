@@ -1,11 +1,6 @@
 // One step of the machine: where it goes, or the first reason why it is stuck.
 use crate::Moved;
-use crate::Operands;
-use crate::elements::cells_exist;
-use crate::elements::result_holds;
-use crate::elements::same;
 use crate::group::put_group;
-use crate::reads::element_at;
 use form::Decoded;
 use form::Form;
 use form::Kind;
@@ -15,6 +10,11 @@ use form::Operand;
 use form::decode;
 use form::decode_known;
 use form::instruction_at;
+use terms::Operands;
+use terms::cells_exist;
+use terms::element_at;
+use terms::result_holds;
+use terms::same;
 use word::add;
 use word::mul;
 ghost use mathlib.Core.Path.{_≡_};
@@ -30,8 +30,8 @@ ghost use Rattle.tables.specs.Bytes.{rowsOf};
 ghost use Rattle.tables.specs.Groups.{lengthOf, stepRow};
 ghost use Rattle.tables.specs.Rows.{formAt, columnB};
 ghost use Rattle.tabled.specs.Tabled.{machineOf};
-ghost use Rattle.tabler.specs.Looked.{operandsOf};
-ghost use Rattle.tabler.specs.Moves.{at, Ready, WellFormed, movedOf};
+ghost use Rattle.terms.specs.Looked.{at, operandsOf};
+ghost use Rattle.tabler.specs.Moves.{Ready, WellFormed, movedOf};
 ghost use Rattle.tabler.specs.Placed.{extBytes, kindRows, Stepped};
 
 // A malformed instruction is read as the jump that stands for it; no program with one is run.

@@ -1,16 +1,15 @@
 // The execution row of a step, through its own bytes of the table.
-use crate::Operands;
 use form::Kind;
 use rows::Exec;
 use rows::put_exec;
+use terms::Operands;
 ghost use mathlib.Core.Path.{_≡_};
 ghost use Prim.Native.Nat.{_+_, _*_, _≤_};
 ghost use lib.ListN.{length, replicate};
 ghost use Rattle.machine.specs.Machine.{Machine};
 ghost use Rattle.tables.specs.Rows.{execRowOf, formAt};
 ghost use Rattle.tables.specs.Groups.{lengthOf};
-ghost use Rattle.tabler.specs.Looked.{operandsOf};
-ghost use Rattle.tabler.specs.Moves.{at};
+ghost use Rattle.terms.specs.Looked.{at, operandsOf};
 ghost use Rattle.tabler.specs.Placed.{execBytes, placed};
 
 // How many extension rows a step of a kind fills.

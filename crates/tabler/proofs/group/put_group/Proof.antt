@@ -11,10 +11,11 @@ use Rattle.rules.specs.Sizes.{wordOf}
 use Rattle.machine.specs.Extension.{result}
 use Rattle.tables.specs.Bytes.{rowsOf}
 use Rattle.tables.specs.Groups.{groupRow}
-use Rattle.tabler.specs.declared.Joined.{Joined}
+use Rattle.terms.specs.declared.Joined.{Joined}
+use Rattle.terms.proofs.Results.{none-left, one-more}
 use Rattle.tabler.specs.Placed.{extBytes}
 use Rattle.tabler.proofs.Lent.{none-back, one-back, all-back, back-length}
-use Rattle.tabler.proofs.Results.{none-left, one-more, made-row}
+use Rattle.tabler.proofs.Results.{made-row}
 use Rattle.tabler.proofs.group.put_group.Statement.{statement}
 use Rattle.tabler.proofs.group.put_group.Tie as tie
 

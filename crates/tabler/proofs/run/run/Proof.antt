@@ -1,19 +1,16 @@
 -- The invariant is `Ran`: the rows before r stand in both tables, and what is left of the run gives the whole answer.
 use borrow.Author.Needs.{needs}
-use borrow.Author.Tests.{not-true, not-false}
 use mathlib.Core.Path.{_≡_, refl, sym, ap, _∙_}
-use Prim.Native.Nat.{_-_, _*_, _/_}
+use Prim.Native.Nat.{_-_, _/_}
 use native.Mathlib.Omega.{arith}
 use lib.ListN.{length}
 use Rattle.form.specs.declared.Form.{Form}
 use Rattle.machine.specs.Step.{step, goes}
 use Rattle.tables.specs.Groups.{lengthOf}
 use Rattle.tabled.specs.Tabled.{machineOf}
-use Rattle.tabler.specs.Looked.{operandsOf}
-use Rattle.tabler.specs.Moves.{at}
+use Rattle.terms.specs.Looked.{at, operandsOf}
 use Rattle.tabler.proofs.Going.{went, held-up}
-use Rattle.tabler.proofs.Lent.{rest-length}
-use Rattle.tabler.proofs.Running.{Ran, begins, is-stuck, no-room, turns, stands, all-exec, all-ext, refused, stuck-no, room-no, open-no}
+use Rattle.tabler.proofs.Running.{Ran, begins, is-stuck, no-room, turns, stands, all-exec, all-ext, refused, stuck-no, room-no}
 use Rattle.tabler.proofs.run.run.Statement.{statement}
 use Rattle.tabler.proofs.run.run.Tie as tie
 
@@ -117,33 +114,23 @@ loop-again c =
           (q .step-of .ensures .written (goes-here p) (omega (arith, e .if1 .left, n .ensures, l .inv .1))),
     )
 
+close-requires : tie.Need-close-requires Inv-loop μ-loop
+close-requires c κs =
+    let l = c .before .before .loop in
+    let s = c .before .before .before .before .before .before .before in
+    (omega (arith, s .pre .0 .exec-some), omega (arith, s .pre .0 .exec-short), omega (arith, l .inv .1, l .inv .2 .fits), omega (arith, l .inv .1, s .pre .0 .ext-rows))
+
 returns-3 : tie.Need-returns-3 Inv-loop μ-loop
 returns-3 c =
-    let l = c .before .before .loop in
-    refused open-no
-    (sym
-    (stands (l .inv .2) (c .before .loop-test .left)
-    ∙ rw (not-true (l .stays) (c .if2 .taken))))
-
-put-padding-requires : tie.Need-put-padding-requires Inv-loop μ-loop
-put-padding-requires c κs =
-    let l = c .before .before .before .loop in
-    let s = c .before .before .before .before .before .before .before .before in
-    omega (arith, rest-length (l .ext) (120 * l .filled) (omega (arith, l .inv .1, l .inv .2 .fits)), l .inv .1, s .pre .0 .ext-rows)
-
-returns-4 : tie.Need-returns-4 Inv-loop μ-loop
-returns-4 c =
-    let l = c .before .before .before .before .before .before .loop in
-    let s = c .before .before .before .before .before .before .before .before .before .before .before in
-    let done = c .before .before .before .before .before .loop-test .left in
-    let x = c .before .before .put-padding in
+    let l = c .before .before .before .before .before .loop in
+    let s = c .before .before .before .before .before .before .before .before .before .before in
+    let done = c .before .before .before .before .loop-test .left in
     record {
-      answer = sym (stands (l .inv .2) done
-          ∙ rw (not-false (l .stays) (c .before .before .before .before .if2 .left)));
+      answer = c .before .before .close .ensures .0 ∙ sym (stands (l .inv .2) done);
       exec-filled = λ _. all-exec (l .inv .2) done
           (omega (arith, l .inv .0, s .pre .0 .exec-rows));
-      ext-filled = λ _. all-ext (l .inv .2) done
-          (omega (arith, l .inv .1, s .pre .0 .ext-rows)) (x .ensures) refl;
+      ext-filled = λ y. all-ext (l .inv .2) done
+          (omega (arith, l .inv .1, s .pre .0 .ext-rows)) refl (c .before .before .close .ensures .1 y);
     }
 
 pub run-spec : {M : Type 1} → statement M
@@ -173,16 +160,7 @@ run-spec =
     add-r
     loop-less
     loop-again
+    close-requires
     (λ c. search needs)
     (λ c. search needs)
-    (λ c. search needs)
-    (λ c. search needs)
-    returns-3
-    (λ c. search needs)
-    (λ c. search needs)
-    (λ c. search needs)
-    (λ c. search needs)
-    put-padding-requires
-    (λ c. search needs)
-    (λ c. search needs)
-    returns-4)
+    returns-3)

@@ -2,7 +2,7 @@
 use borrow.Author.Needs.{needs}
 use borrow.Author.Tests.{not-true, not-false}
 use Rattle.tabled.specs.Tabled.{machineOf}
-use Rattle.tabler.specs.Moves.{at}
+use Rattle.terms.specs.Looked.{at}
 use Rattle.tabler.proofs.Going.{halts}
 use Rattle.tabler.proofs.Looking.{cell-b, stuck-a, stuck-b, stuck-c, all-legal}
 use Rattle.tabler.proofs.step.perform_form.Statement.{statement}

@@ -2,7 +2,7 @@
 use borrow.Author.Needs.{needs}
 use borrow.Author.Tests.{le-ltb, lt-ltb}
 use Rattle.tabled.specs.Tabled.{machineOf}
-use Rattle.tabler.specs.Moves.{at}
+use Rattle.terms.specs.Looked.{at}
 use Rattle.tabler.proofs.Going.{past-end, through, halts}
 use Rattle.tabler.proofs.Looking.{value-a, value-b, value-c}
 use Rattle.tabler.proofs.Standing.{kind-rows}

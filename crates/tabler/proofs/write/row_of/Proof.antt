@@ -1,6 +1,6 @@
 -- Each column and its cell were looked at.
 use Rattle.tables.specs.Rows.{execRowOf, formAt}
-use Rattle.tabler.specs.Moves.{at}
+use Rattle.terms.specs.Looked.{at}
 use Rattle.tabler.proofs.Looking.{b-addr, b-cell}
 use Rattle.tabler.proofs.write.row_of.Statement.{statement}
 use Rattle.tabler.proofs.write.row_of.Tie as tie

@@ -1,0 +1,2 @@
+pub mod Looked
+pub mod Joined

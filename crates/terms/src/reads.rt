@@ -1,0 +1,69 @@
+// Cells and elements of the memory.
+use word::word_at;
+ghost use mathlib.Core.Path.{_≡_};
+ghost use Prim.Native.Nat.{_+_, _≤_, _<_};
+ghost use lib.ListN.{length};
+ghost use Rattle.word.specs.Bytes.{wordAt};
+ghost use Rattle.rules.specs.Sizes.{wordOf};
+ghost use Rattle.machine.specs.Extension.{elementAt};
+
+fn wide(x: u8) -> u32
+    ensures { λ r. ⌜ (r ≡ x) × (r < 256) ⌝ }
+{
+    x as u32
+}
+
+// A word whose four bytes are there: a cell that exists is read with one test.
+fn word_inside(s: &[u8], at: usize) -> u32
+    requires { ⌜ at + 4 ≤ length (now s) ⌝ }
+    ensures { λ r. ⌜ r ≡ wordAt (now (s .entry)) at ⌝ }
+{
+    wide(s[at]) + 256 * wide(s[at + 1]) + 65536 * wide(s[at + 2]) + 16777216 * wide(s[at + 3])
+}
+
+pub fn cell(memory: &[u8], k: usize) -> u32
+    ensures { λ r. ⌜ r ≡ wordOf (now (memory .entry)) k ⌝ }
+{
+    if k < memory.len() / 4 {
+        return word_inside(memory, 4 * k);
+    }
+    if memory.len() / 4 < k {
+        return 0;
+    }
+    word_at(memory, 4 * k)
+}
+
+// The element where some of its cells may not exist.
+fn element_near_end(memory: &[u8], k: usize) -> [u32; 5]
+    ensures { λ r. ⌜ r ≡ elementAt (wordOf (now (memory .entry))) k ⌝ }
+{
+    if memory.len() / 4 < k {
+        return [0, 0, 0, 0, 0];
+    }
+    [
+        cell(memory, k),
+        cell(memory, k + 1),
+        cell(memory, k + 2),
+        cell(memory, k + 3),
+        cell(memory, k + 4),
+    ]
+}
+
+// The element in five cells from k on.
+pub fn element_at(memory: &[u8], k: usize) -> [u32; 5]
+    ensures { λ r. ⌜ r ≡ elementAt (wordOf (now (memory .entry))) k ⌝ }
+{
+    if 1099511627776 <= k {
+        return element_near_end(memory, k);
+    }
+    if memory.len() / 4 < k + 5 {
+        return element_near_end(memory, k);
+    }
+    [
+        word_inside(memory, 4 * k),
+        word_inside(memory, 4 * (k + 1)),
+        word_inside(memory, 4 * (k + 2)),
+        word_inside(memory, 4 * (k + 3)),
+        word_inside(memory, 4 * (k + 4)),
+    ]
+}
