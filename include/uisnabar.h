@@ -5,7 +5,8 @@
  *
  * Buffers. Each is a pointer and its length in bytes. The caller owns every buffer and may free or change it once the call returned. A
  * pointer may be null where its length is 0. A buffer that is written must not overlap any other. Inputs are read only within
- * their lengths and never written. Lengths and contents may be anything: what is wrong with them is the answer.
+ * their lengths and never written. Lengths and contents may be anything: what is wrong with them is the answer. No buffer need be aligned. A word of
+ * an input is 4 bytes, little-endian, below p = 2^31 - 2^24 + 1 = 2,130,706,433.
  *
  * Answers. The verdict is returned. The four numbers verdict, part, place and rule are written to `answer` as 16 bytes, 4 each,
  * little-endian; a number that a verdict does not name is 0. docs/VERDICTS.md is the same table at length.
@@ -45,8 +46,9 @@ enum uisnabar_verdict {
  *   answer   16 bytes, written on every verdict but ANSWER
  *
  * Returns ACCEPTED, 1 to 7, or ANSWER where answer_len isn't 16. Tests run in number order, ANSWER first.
- * Time grows with the bytes handed in where groups stand in execution order, as a tabler writes them; docs/DECISIONS.md
- * ("The bus in the judge") has the cost of other orders.
+ * Time grows with the bytes handed in where groups stand in execution order, as a tabler writes them. In other orders it grows faster, and
+ * tables of the largest sizes that were chosen to be refused may take some 12 to 40 minutes, by estimate (docs/DECISIONS.md, "The bus in the judge"):
+ * a driver that judges what strangers send may want to bound its own time.
  */
 uint32_t uisnabar_judge(const uint8_t *program, size_t program_len, const uint8_t *memory, size_t memory_len,
                         uint64_t pc, uint64_t fp, const uint8_t *exec, size_t exec_len,

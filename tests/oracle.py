@@ -1,6 +1,6 @@
 """A second implementation of the bench, written from the documents alone.
 
-Sources: document 01 ("01, <heading>") and draft 0.6.0 ("0.6.0, <section>"), with POINTS.md where they
+Sources: document 01 ("01, <heading>") and draft 0.6.0 ("0.6.0, <section>"), with the founders' decided points where they
 leave a choice. It shares nothing with the bench it is compared with, and is plain rather than fast.
 An answer is (verdict, part, place, rule). Words are Python integers below P, elements are 5-tuples of words.
 Run as a program it checks itself.
@@ -72,7 +72,7 @@ def draw(state):
     return state >> 32, state
 
 def require(seed, m, n):
-    """ValueError, which stands for SIZE part 0, unless the recipe is one (01, Draws, recipe, label; POINTS 2)."""
+    """ValueError, which stands for SIZE part 0, unless the recipe is one (01, Draws, recipe, label; point 2)."""
     if not (0 <= seed < 2**64 and 10 <= m <= 29 and 1 <= n <= 124):
         raise ValueError("recipe out of range")
 
@@ -100,7 +100,7 @@ def read_label(text):
     return (8, 0, place, 0, 0, 0, 0)
 
 def make(seed, m, n):
-    """(program, memory) of a recipe (01, Draws, recipe, label; POINTS 12)."""
+    """(program, memory) of a recipe (01, Draws, recipe, label; point 12)."""
     require(seed, m, n)
     cells, code, state = [0] * 2**m, [], seed
     for i in range(32):
@@ -169,7 +169,7 @@ def selected(instruction, row):
             (fc * oc + (1 - fc - fpc) * vc + fpc * (fp + oc)) % P)
 
 def looks_up(cells, index, values):
-    """Whether the cells from index are there and hold the values (0.6.0, 3.5.3; POINTS 7)."""
+    """Whether the cells from index are there and hold the values (0.6.0, 3.5.3; point 7)."""
     return index + len(values) <= len(cells) and cells[index:index + len(values)] == values
 
 def exec_rules(code, cells, row, after):
@@ -277,7 +277,7 @@ def result(cells, data, from_a, from_b):
     return comp
 
 def step(code, cells, pc, fp):
-    """(row, extension call or None, next pc, next fp), or Stuck (01, The machine, without flags; POINTS 7 and 8)."""
+    """(row, extension call or None, next pc, next fp), or Stuck (01, The machine, without flags; points 7 and 8)."""
     def cell(address, rule):
         if address >= len(cells):
             raise Stuck(rule)

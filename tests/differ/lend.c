@@ -1,9 +1,11 @@
 #define _DEFAULT_SOURCE
 #include "lend.h"
 
+#include <signal.h>
 #include <stdlib.h>
 #include <string.h>
 #include <sys/mman.h>
+#include <sys/wait.h>
 #include <unistd.h>
 
 enum { GUARD = 64 };
@@ -23,6 +25,32 @@ bool slot_open(slot *s)
         return false;
     s->room = all + page;
     return mprotect(s->room, CAPACITY, PROT_READ | PROT_WRITE) == 0;
+}
+
+enum { FAULTED = 77 };
+
+static void faulted(int signal)
+{
+    (void)signal;
+    _exit(FAULTED);
+}
+
+static bool read_faults(const volatile uint8_t *byte)
+{
+    pid_t child = fork();
+    if (child == 0) {
+        signal(SIGSEGV, faulted);
+        signal(SIGBUS, faulted);
+        _exit(*byte == 0 ? 0 : 1);
+    }
+    int status;
+    return child > 0 && waitpid(child, &status, 0) == child && WIFEXITED(status) && WEXITSTATUS(status) == FAULTED;
+}
+
+bool pages_fault(void)
+{
+    slot s;
+    return slot_open(&s) && read_faults(s.room - 1) && read_faults(s.room + CAPACITY) && !read_faults(s.room);
 }
 
 /* The guard bytes there is room for before and after the buffer. */

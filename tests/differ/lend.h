@@ -20,6 +20,9 @@ typedef struct {
 /* False if the machine gives no room. */
 bool slot_open(slot *s);
 
+/* Whether a read of the byte before a room, and of the one behind it, faults. */
+bool pages_fault(void);
+
 /* Fills both copies: from bytes, or at random where bytes is NULL.  Paged, the
  * first or last byte stands at a page that faults. */
 void slot_lend(slot *s, source *random, bool paged, const uint8_t *bytes,

@@ -4,6 +4,7 @@
 #define _DEFAULT_SOURCE
 #include "tries.h"
 
+#include <stdio.h>
 #include <sys/mman.h>
 
 static const size_t most[PARTS] = { (size_t)1 << 20, (size_t)1 << 29,
@@ -30,8 +31,10 @@ void try_limits(differ *d)
     size_t bytes = 2 * most[MEMORY] * unit_of(MEMORY);
     uint8_t *zeros = mmap(NULL, bytes, PROT_READ,
                           MAP_PRIVATE | MAP_ANONYMOUS | MAP_NORESERVE, -1, 0);
-    if (zeros == MAP_FAILED)
-        return; /* a machine without the address space */
+    if (zeros == MAP_FAILED) {
+        printf("skipped: the largest lengths, for want of address space\n");
+        return;
+    }
     for (int part = 0; part < PARTS; part++) {
         size_t next = part == PROGRAM ? most[part] + 1 : 2 * most[part];
         for (int i = 0; i < 4 && more_calls(d); i++)

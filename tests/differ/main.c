@@ -3,6 +3,7 @@
  *   differ SEED CALLS             stops after that many calls
  *   differ SEED 0 SECONDS         stops after that long
  *   differ --page SEED CALLS      buffers at pages that fault, small stack
+ *   differ --large                a few tables of 16,383 groups
  *
  * Ends with 0 if there is no difference and everything listed in tally.c was
  * reached, 1 if not, 2 if it could not run. */
@@ -52,12 +53,14 @@ static void run(differ *d, uint64_t seconds)
 
 static int usage(void)
 {
-    fprintf(stderr, "usage: differ [--page] SEED CALLS, or SEED 0 SECONDS\n");
+    fprintf(stderr, "usage: differ [--page] SEED CALLS, or SEED 0 SECONDS, or --large\n");
     return 2;
 }
 
 int main(int argc, char **argv)
 {
+    if (argc == 2 && strcmp(argv[1], "--large") == 0)
+        return try_large() ? 0 : 1;
     bool paged = argc > 1 && strcmp(argv[1], "--page") == 0;
     char **from = argv + 1 + paged;
     int given = argc - 1 - paged;
@@ -70,6 +73,10 @@ int main(int argc, char **argv)
     printf("seed %" PRIu64 "\n", seed);
     if (!differ_open(&all, seed, paged) || !rounds_open()) {
         fprintf(stderr, "differ: no room\n");
+        return 2;
+    }
+    if (paged && !pages_fault()) {
+        fprintf(stderr, "differ: a byte past a page was read and nothing happened\n");
         return 2;
     }
     all.limit = calls == 0 ? UINT64_MAX : calls;

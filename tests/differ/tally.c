@@ -44,11 +44,11 @@ void tally_add(tally *t, enum function f, second_answer a)
     if (a.verdict == STUCK)
         count(t->stuck, LAST_STUCK_RULE, a.rule);
     if (a.verdict == SIZE)
-        count(t->size, LAST_SIZE_PART, a.part);
+        count(t->size[f], LAST_SIZE_PART, a.part);
     if (a.verdict == BUS)
         count(t->bus, LAST_PART, a.part);
     if (a.verdict == WORD)
-        count(t->word, LAST_PART, a.part);
+        count(t->word[f], LAST_PART, a.part);
     if (a.verdict == LABEL)
         count(t->place, LAST_PLACE, a.place);
 }
@@ -59,7 +59,7 @@ typedef struct {
     uint32_t first, last; /* each from first to last must be reached */
 } line;
 
-enum { LINES = 7 };
+enum { LINES = 12 };
 
 static void lines_of(const tally *t, line out[LINES])
 {
@@ -68,8 +68,13 @@ static void lines_of(const tally *t, line out[LINES])
         { "extension rule", t->ext, 1, LAST_EXT_RULE },
         { "STUCK rule", t->stuck, 1, LAST_STUCK_RULE },
         { "BUS part", t->bus, 3, LAST_PART },
-        { "SIZE part", t->size, 0, LAST_SIZE_PART },
-        { "WORD part", t->word, 1, LAST_PART },
+        { "judge's SIZE part", t->size[JUDGE], 1, LAST_PART },
+        { "tabler's SIZE part", t->size[TABLER], 1, LAST_PART },
+        { "maker's SIZE part", t->size[MAKER], 0, 2 },
+        { "writer's recipe SIZE part", t->size[LABEL_WRITER], 0, 0 },
+        { "writer's buffer SIZE part", t->size[LABEL_WRITER], LAST_SIZE_PART, LAST_SIZE_PART },
+        { "judge's WORD part", t->word[JUDGE], 1, LAST_PART },
+        { "tabler's WORD part", t->word[TABLER], 1, 2 },
         { "LABEL place", t->place, 0, LAST_PLACE },
     };
     for (int i = 0; i < LINES; i++)

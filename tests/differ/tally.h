@@ -19,8 +19,9 @@ enum { LAST_EXEC_RULE = 16, LAST_EXT_RULE = 21, LAST_STUCK_RULE = 8,
 typedef struct {
     uint64_t calls[FUNCTIONS], verdicts[FUNCTIONS][VERDICTS];
     uint64_t exec[LAST_EXEC_RULE + 1], ext[LAST_EXT_RULE + 1];
-    uint64_t stuck[LAST_STUCK_RULE + 1], size[LAST_SIZE_PART + 1];
-    uint64_t bus[LAST_PART + 1], word[LAST_PART + 1], place[LAST_PLACE + 1];
+    uint64_t stuck[LAST_STUCK_RULE + 1], bus[LAST_PART + 1];
+    uint64_t size[FUNCTIONS][LAST_SIZE_PART + 1], word[FUNCTIONS][LAST_PART + 1];
+    uint64_t place[LAST_PLACE + 1];
 } tally;
 
 extern const char *const function_names[FUNCTIONS];

@@ -13,6 +13,9 @@ size_t some_answer_length(source *random);
 void try_writer(differ *d);
 void try_maker(differ *d);
 
+/* large.c: tables of many groups; false where the two differ. */
+bool try_large(void);
+
 /* limits.c: lengths at the largest of each part and just above. */
 void try_limits(differ *d);
 

@@ -1,4 +1,5 @@
--- Document 01, "What the contracts owe": a promise that is an equation admits one answer. Stated once, for every function.
+-- Document 01, "What the contracts owe": a promise that is an equation admits one answer. Stated once, for every
+-- function: it holds of the answer and of each lent buffer, as each has an equation of its own.
 use mathlib.Core.Path.{_≡_, sym, _∙_}
 
 -- no two answers keep the promise

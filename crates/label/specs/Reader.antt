@@ -1,4 +1,4 @@
--- How the reader goes, a byte at a time, for its inner functions. The promise of `read_label` is in Reading.antt and knows nothing of this.
+-- How the reader goes, what is before n at once and the rest a byte at a time, for its inner functions. The promise of `read_label` is in Reading.antt and knows nothing of this.
 use Prim.Native.Nat.{ℕ, zero, suc, _+_, _-_, _*_, _^_, _<_, _≤_, min}
 use mathlib.Core.Bool.{Bool, true, cond, _&&_, _||_}
 use mathlib.Core.List.{List, [], _∷_, _++_}

@@ -1,7 +1,7 @@
--- Document 01, "The machine, without flags"; draft 0.6.0, 2.2 to 2.4: what a machine and its state are, and how an operand is read.
+-- Document 01, "The machine, without flags"; draft 0.6.0, 2.2 to 2.5: what a machine and its state are, and how an operand is read.
 -- No flag and no polynomial.
 use Prim.Native.Nat.{ℕ}
-use mathlib.Core.Bool.{Bool, true, false}
+use mathlib.Core.Bool.{Bool, true}
 use lib.Dec.{ltb}
 use Rattle.word.specs.Word.{_+ₚ_}
 use Rattle.form.specs.Form.{decodeOf}
@@ -14,7 +14,7 @@ use Rattle.form.specs.declared.Operand.{Operand}
 use Rattle.form.specs.declared.Mode.{Mode}
 use Rattle.form.specs.declared.Mode.the-variants.{Immediate, Cell, Frame}
 
--- a program of well-formed instructions, and a read-only memory of M cells
+-- a program, by the forms of its instructions, and a read-only memory of M cells
 pub record Machine : Type 0 where
   pub count : ℕ
   pub form : ℕ → Form

@@ -1,4 +1,4 @@
--- Document 01, "The bus": how often a row pushes and pulls, by the words that say so.
+-- Document 01, "The bus"; draft 0.6.0, 3.3.3 (IS_PRECOMPILE): how often a row pushes and pulls, by the words that say so.
 use Prim.Native.Nat.{ℕ, _+_, _*_}
 use Rattle.word.specs.Word.{_+ₚ_, _-ₚ_, _*ₚ_}
 use Rattle.rules.specs.Execution.{half}

@@ -1,4 +1,4 @@
--- Document 01, "Layouts", parts 3 and 4; draft 0.6.0, 3.3.1 and 3.5.2: the words of a row, in order.
+-- Document 01, "Layouts", parts 3 and 4; draft 0.6.0, 3.3.1 and 3.5.1: the words of a row, in order.
 use Prim.Native.Nat.{ℕ, _+_}
 use mathlib.Core.List.{List, [], _∷_, _++_}
 use lib.ListN.{length, getD}

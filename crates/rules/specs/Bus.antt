@@ -23,11 +23,11 @@ sameTuple s t = eqb (s .aux) (t .aux) && eqb (s .left) (t .left) && eqb (s .righ
 abbrev pub pushed : Instruction → Exec → Tuple
 pushed i x = record { aux = i .«data»; left = νA i x; right = νB i x; out = νC i x }
 
--- how often an execution row pushes: once where the instruction is a precompile, and else not
+-- how often an execution row pushes: of a well-formed instruction, once where it is a precompile, and else not
 abbrev pub pushes : Instruction → ℕ
 pushes i = IS-PRECOMPILE i
 
--- (2·be + 4·add + 8·mul + 16·peq + 32·len, idxA, idxB, idxR)
+-- (2·be + 4·add + 8·mul + 16·peq + 32·len modulo p, idxA, idxB, idxR)
 abbrev pub pulled : Ext → Tuple
 pulled x = record { aux = dataOf (x .be) (x .add) (x .mul) (x .peq) (x .len) % p; left = x .idxA; right = x .idxB; out = x .idxR }
 

@@ -1,4 +1,5 @@
--- What the theorems on the execution table speak of: a program and a memory that pass verdicts 1 to 3 of document 01, a row's state, and
+-- What the theorems on the execution table speak of: what they ask of a program and a memory, which those that pass verdicts 1 to 3 of document 01
+-- have, a row's state, and
 -- what an extension row pushes (document 01, "The bus") and asks of the memory ("The machine, without flags").
 use mathlib.Core.Path.{_≡_}
 use Prim.Native.Nat.{ℕ, _≤_, _<_, _^_}
@@ -33,7 +34,7 @@ pub record OperandWords (i : Instruction) : Type 0 where
   pub b : IsWord (i .b)
   pub c : IsWord (i .c)
 
--- a program and a memory whose sizes are in range, whose words are below p, and whose instructions are well-formed
+-- what the theorems ask: sizes up to the largest, operands and cells below p, and well-formed instructions
 pub record Fit (g : Given) : Type 0 where
   pub few : g .count ≤ 2 ^ 20
   pub small : g .size ≤ 2 ^ 29

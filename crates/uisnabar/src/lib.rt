@@ -46,7 +46,7 @@ fn put_recipe(recipe: &mut [u8], a: Answer, r: Recipe)
     }
 }
 
-// The label reader: ANSWER first, for either buffer.
+// The label reader. ANSWER is the answer before any other, for either buffer.
 #[no_mangle]
 pub extern "C" fn uisnabar_label(text: &[u8], answer: &mut [u8], recipe: &mut [u8]) -> u32
     ensures { λ r. ⌜ LabelCall (now (text .entry)) (now (answer .entry)) (now (recipe .entry)) (now (answer .exit)) (now (recipe .exit)) r ⌝ }

@@ -1,5 +1,5 @@
 // One walk over each table: the first row with a rule that fails. Each row is tried by plain comparisons; only where they don't settle it are the
-// polynomials taken. An extension row is read once, and kept for the row before; of the next execution row only pc and fp are read.
+// polynomials taken. An extension row is read once, and kept for the row before; of the next execution row only pc and fp are used.
 use exec_checks::exec_failing;
 use exec_checks::exec_holds;
 use ext_checks::ext_failing;
@@ -12,11 +12,12 @@ use rows::ext_row;
 ghost use mathlib.Core.Path.{_≡_};
 ghost use mathlib.Core.Bool.{true};
 ghost use mathlib.Core.List.{[]};
-ghost use Prim.Native.Nat.{_*_, _/_, _<_, _≤_};
+ghost use Prim.Native.Nat.{_*_, _/_, _<_};
+ghost use lib.Dec.{ltb};
 ghost use lib.ListN.{length};
 ghost use Rattle.form.specs.Instruction.{instructionAt};
 ghost use Rattle.rows.specs.Rows.{execAt, extAt};
-ghost use Rattle.rules.specs.Given.{next};
+ghost use Rattle.rules.specs.Given.{next, either};
 ghost use Rattle.exec_checks.specs.Parts.{execFails};
 ghost use Rattle.judged.specs.Judged.{execFailing, extFailing, firstExec, firstExt};
 ghost use Rattle.rules.specs.Sizes.{given, tables};
@@ -123,10 +124,7 @@ pub fn first_ext(memory: &[u8], ext: &[u8]) -> usize
 
 // The rule that fails on execution row r; 0 where none does or there is no such row.
 pub fn exec_rule(program: &[u8], memory: &[u8], exec: &[u8], r: usize) -> u32
-    ensures { λ s. ⌜
-        (r < length (now (exec .entry)) / 32 → s ≡ execFailing (given (now (program .entry)) (now (memory .entry))) (tables (now (exec .entry)) []) r)
-        × (length (now (exec .entry)) / 32 ≤ r → s ≡ 0)
-        ⌝ }
+    ensures { λ s. ⌜ s ≡ either (ltb r (length (now (exec .entry)) / 32)) (execFailing (given (now (program .entry)) (now (memory .entry))) (tables (now (exec .entry)) []) r) 0 ⌝ }
 {
     if r < exec.len() / 32 {
         return exec_row_failing(program, memory, exec, r);
@@ -136,10 +134,7 @@ pub fn exec_rule(program: &[u8], memory: &[u8], exec: &[u8], r: usize) -> u32
 
 // The same of extension row r.
 pub fn ext_rule(memory: &[u8], ext: &[u8], r: usize) -> u32
-    ensures { λ s. ⌜
-        (r < length (now (ext .entry)) / 120 → s ≡ extFailing (given [] (now (memory .entry))) (tables [] (now (ext .entry))) r)
-        × (length (now (ext .entry)) / 120 ≤ r → s ≡ 0)
-        ⌝ }
+    ensures { λ s. ⌜ s ≡ either (ltb r (length (now (ext .entry)) / 120)) (extFailing (given [] (now (memory .entry))) (tables [] (now (ext .entry))) r) 0 ⌝ }
 {
     if r < ext.len() / 120 {
         return ext_row_failing(memory, ext, r);

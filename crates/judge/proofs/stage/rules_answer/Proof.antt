@@ -7,7 +7,7 @@ use Rattle.judge.proofs.stage.rules_answer.Statement.{statement}
 use Rattle.judge.proofs.stage.rules_answer.Tie as tie
 
 returns : tie.Need-returns
-returns c = rw (c .exec-rule .ensures .0 (c .before .if1 .taken), sym (c .before .before .first-exec .ensures), lt-ltb _ _ (c .before .if1 .taken))
+returns c = rw (c .exec-rule .ensures, sym (c .before .before .first-exec .ensures), lt-ltb _ _ (c .before .if1 .taken))
 
 returns-2 : tie.Need-returns-2
 returns-2 c =
@@ -19,7 +19,7 @@ returns-2 c =
     rw (
       sym (first-exec .ensures),
       le-ltb _ _ (if1 .left),
-      c .ext-rule .ensures .0 (if2 .taken) ∙ ext-failing-same (start .args .program .now) (start .args .memory .now) (start .args .exec .now)
+      (rw (lt-ltb _ _ (if2 .taken)) at (c .ext-rule .ensures)) ∙ ext-failing-same (start .args .program .now) (start .args .memory .now) (start .args .exec .now)
           (start .args .ext .now) (first-ext .result),
       sym (first-ext .ensures ∙ first-ext-same (start .args .program .now) (start .args .memory .now) (start .args .exec .now) (start .args .ext .now)),
       lt-ltb _ _ (if2 .taken),

@@ -1,0 +1,55 @@
+/* Tables of 16,383 groups: in another order than the pushes, the judge's bus needs more than one round for them, and where they do not balance,
+ * more than one window. */
+#include <inttypes.h>
+#include <stdio.h>
+#include <string.h>
+
+#include "../speed/inputs.h"
+#include "library.h"
+#include "tries.h"
+
+enum { GROUP = 4 * 120 };
+
+typedef struct {
+    const char *name;
+    uint32_t verdict; /* both must give it */
+} expected;
+
+static void put_answer(uint8_t out[16], second_answer a)
+{
+    store_word(out, a.verdict);
+    store_word(out + 4, a.part);
+    store_word(out + 8, a.place);
+    store_word(out + 12, a.rule);
+}
+
+/* Both judges on the input with this extension table; false where they differ or the verdict is another. */
+static bool judge_both(const speed_input *in, const uint8_t *ext, expected e)
+{
+    uint8_t first[16] = {0}, second[16];
+    uint32_t verdict = uisnabar_judge(in->program, in->program_len, in->memory, in->memory_len, 0, 0, in->exec, in->exec_len, ext,
+                                      in->ext_len, first, sizeof first);
+    second_answer a = second_judge_sorted(in->program, in->program_len, in->memory, in->memory_len, 0, 0, in->exec, in->exec_len, ext,
+                                          in->ext_len);
+    put_answer(second, a);
+    bool good = verdict == a.verdict && verdict == e.verdict && memcmp(first, second, sizeof first) == 0;
+    printf("large, %s: verdict %" PRIu32 ", second %" PRIu32 " part %" PRIu32 " place %" PRIu32 "%s\n", e.name, verdict, a.verdict, a.part,
+           a.place, good ? "" : ": DIFFERENCE");
+    return good;
+}
+
+bool try_large(void)
+{
+    speed_input in = speed_build(18, 16, 20, 1);
+    uint32_t tabled = second_table(in.program, in.program_len, in.memory, in.memory_len, 0, 0, in.exec, in.exec_len, in.ext, in.ext_len)
+                          .verdict;
+    bool good = tabled == ACCEPTED;
+    good &= judge_both(&in, in.ext, (expected){"in order", ACCEPTED});
+    speed_shuffle(&in, 2);
+    good &= judge_both(&in, in.shuffled, (expected){"shuffled", ACCEPTED});
+    /* a late group once more, in the place of another */
+    memcpy(in.shuffled + (size_t)GROUP * 9000, in.shuffled + (size_t)GROUP * 12000, GROUP);
+    good &= judge_both(&in, in.shuffled, (expected){"shuffled, one group twice", BUS});
+    speed_free(&in);
+    return good;
+}
