@@ -1,7 +1,7 @@
 -- The judge's stages over bytes, by the definitions of `rules` and `judged`.
 use mathlib.Core.Path.{_≡_}
 use mathlib.Core.Bool.{true}
-use mathlib.Core.List.{List, []}
+use mathlib.Core.List.{List}
 use Prim.Native.Nat.{ℕ, _*_, _/_, _^_, _<_}
 use lib.ListN.{length}
 use Rattle.form.specs.Form.{wellFormed}

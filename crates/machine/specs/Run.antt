@@ -1,6 +1,6 @@
 -- Document 01, "Verdicts" 9 to 11, and the mission's third demand: a run of H legal steps that stays where it is at its end.
 use mathlib.Core.Path.{_≡_}
-use Prim.Native.Nat.{ℕ, zero, suc, _+_, _<_}
+use Prim.Native.Nat.{ℕ, zero, suc, _<_}
 use Rattle.machine.specs.Machine.{Machine, State}
 use Rattle.machine.specs.Step.{Outcome, goes, stuck, step}
 

@@ -1,13 +1,11 @@
 -- The mission's second demand: when a table satisfies the constraints of draft 0.6.0. Nothing here knows of a machine, a stepper or a judge.
 use mathlib.Core.Path.{_≡_}
-use mathlib.Core.Bool.{Bool, true}
 use mathlib.Core.List.{List, [], _∷_}
 use Prim.Native.Nat.{ℕ, _/_, _<_}
 use lib.ListN.{length}
 use lib.Dec.{T}
 use Rattle.word.specs.Word.{IsWord}
 use Rattle.form.specs.Form.{wellFormed}
-use Rattle.rows.specs.declared.Exec.{Exec}
 use Rattle.rules.specs.Given.{Given, Tables, Rule, next}
 use Rattle.rules.specs.Execution.{execRules}
 use Rattle.rules.specs.Extension.{extRules}

@@ -1,5 +1,5 @@
 -- Document 01, "The tabler": the states of a run by row, and each execution row's eight words from its state.
-use Prim.Native.Nat.{ℕ, zero}
+use Prim.Native.Nat.{ℕ}
 use Rattle.form.specs.declared.Form.{Form}
 use Rattle.form.specs.declared.Operand.{Operand}
 use Rattle.form.specs.declared.Mode.{Mode}
