@@ -38,7 +38,8 @@ REFUSER = {STUCK_ROOM: "tabler"}
 
 # what an edit needs beside it
 EXTRA = {
-    "padding with comp 0": ("crates/tables/specs/Groups.antt", "use mathlib.Core.List.{List}", "use mathlib.Core.List.{List, [], _∷_}"),
+    "the bus reduced to equal totals": (RULES + "Bus.antt", "use mathlib.Core.Bool.{Bool,", "use mathlib.Core.Bool.{Bool, true,"),
+    "padding with comp 0": ("crates/tables/specs/Groups.antt", "use mathlib.Core.Bool.", "use mathlib.Core.List.{[], _∷_}\nuse mathlib.Core.Bool."),
     "C not read on an untaken jump": (
         "crates/machine/specs/Step.antt",
         "-- all operands are read before",
