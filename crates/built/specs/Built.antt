@@ -1,4 +1,4 @@
--- A recipe made and then tabled from pc 0 and fp 0, in lent buffers: the answer, and the two tables at return.
+-- Document 01, "Draws, recipe, label": a recipe made and then tabled from pc 0 and fp 0, in lent buffers: the answer, and the two tables at return.
 use Prim.Native.Nat.{ℕ}
 use mathlib.Core.Bool.{Bool, cond}
 use mathlib.Core.List.{List}

@@ -1,4 +1,4 @@
--- The rules of one extension row, in the groups in which the code walks them; each group ends in what comes after it.
+-- The rules of one extension row, for the code: those of `rules` in the groups in which the code walks them; each group ends in what comes after it.
 use Prim.Native.Nat.{ℕ}
 use mathlib.Core.List.{List}
 use Rattle.word.specs.Word.{_+ₚ_, _-ₚ_, _*ₚ_}

@@ -3,16 +3,12 @@
 use mathlib.Core.Path.{_≡_, refl, ap, _∙_}
 use mathlib.Core.List.{List}
 use Prim.Native.Nat.{ℕ, _+_}
-use native.Mathlib.Nat.{add-assoc}
 use lib.ListN.{getD}
-use Rattle.word.specs.Bytes.{wordAt}
+use Rattle.word.proofs.Part.{word-later}
 use Rattle.form.specs.Fours.{fourAt, ofFours}
 use Rattle.form.specs.Instruction.{instructionAt}
 
 module _ (s : List ℕ) (at : ℕ) where
-  later : (k n m : ℕ) → k + n ≡ m → wordAt s (at + k + n) ≡ wordAt s (at + m)
-  later k n m e = ap (wordAt s) (add-assoc at k n ∙ ap (λ (j : ℕ). at + j) e)
-
   pub of-fours : {f g h : List ℕ} → f ≡ fourAt s at → g ≡ fourAt s (at + 16) → h ≡ fourAt s (at + 32) → ofFours f g h ≡ instructionAt s at
   unfolding fourAt instructionAt
   of-fours ef eg eh i =
@@ -22,13 +18,13 @@ module _ (s : List ℕ) (at : ℕ) where
         c = nth ef 2 i;
         fa = nth ef 3 i;
         fb = nth eg 0 i;
-        fc = (nth eg 1 ∙ later 16 4 20 refl) i;
-        fpc = (nth eg 2 ∙ later 16 8 24 refl) i;
-        fpab = (nth eg 3 ∙ later 16 12 28 refl) i;
+        fc = (nth eg 1 ∙ word-later s at 16 4 20 refl) i;
+        fpc = (nth eg 2 ∙ word-later s at 16 8 24 refl) i;
+        fpab = (nth eg 3 ∙ word-later s at 16 12 28 refl) i;
         mul = nth eh 0 i;
-        jump = (nth eh 1 ∙ later 32 4 36 refl) i;
-        aux = (nth eh 2 ∙ later 32 8 40 refl) i;
-        «data» = (nth eh 3 ∙ later 32 12 44 refl) i;
+        jump = (nth eh 1 ∙ word-later s at 32 4 36 refl) i;
+        aux = (nth eh 2 ∙ word-later s at 32 8 40 refl) i;
+        «data» = (nth eh 3 ∙ word-later s at 32 12 44 refl) i;
       }
     where
       nth : {x y : List ℕ} → x ≡ y → (k : ℕ) → getD x k 0 ≡ getD y k 0

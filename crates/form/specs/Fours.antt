@@ -1,4 +1,4 @@
--- The 12 words of an instruction, read as three times four.
+-- The 12 words of an instruction as the code reads them: three times four.
 use Prim.Native.Nat.{ℕ, _+_}
 use mathlib.Core.List.{List, [], _∷_}
 use lib.ListN.{getD}

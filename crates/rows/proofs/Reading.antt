@@ -8,7 +8,7 @@ use native.Mathlib.Omega.{arith}
 use lib.ListN.{length, getD, take, drop}
 use lib.Seq.{getD-drop, drop-append-seam}
 use Rattle.word.proofs.Lists.{_∷≡_}
-use Rattle.word.proofs.Part.{word-part, word-drop, first-word}
+use Rattle.word.proofs.Part.{word-part, word-later, word-drop, first-word}
 use Rattle.word.specs.Bytes.{wordAt}
 use Rattle.rows.specs.Rows.{execAt, fiveAt, extAt}
 
@@ -68,9 +68,6 @@ module _ (s : List ℕ) (at : ℕ) where
 
 -- the same of five words each: the ten words before the elements are two fives
 module _ (s : List ℕ) (at : ℕ) where
-  later : (k n m : ℕ) → k + n ≡ m → wordAt s (at + k + n) ≡ wordAt s (at + m)
-  later k n m e = ap (wordAt s) (add-assoc at k n ∙ ap (λ (j : ℕ). at + j) e)
-
   pub ext-of-fives : {f g a0 a1 a2 a3 : List ℕ}
       → f ≡ fiveAt s at
       → g ≡ fiveAt s (at + 20)
@@ -81,7 +78,7 @@ module _ (s : List ℕ) (at : ℕ) where
       → record { start = getD f 0 0; add = getD f 1 0; mul = getD f 2 0; peq = getD f 3 0; len = getD f 4 0; idxA = getD g 0 0; idxB = getD g 1 0; idxR = getD g 2 0; be = getD g 3 0; base = getD g 4 0; vA = a0; vB = a1; comp = a2; res = a3 } ≡ extAt s at
   unfolding fiveAt extAt
   ext-of-fives ef eg e0 e1 e2 e3 =
-      ext-made s at (nth ef 0) (nth ef 1) (nth ef 2) (nth ef 3) (nth ef 4) (nth eg 0) (nth eg 1 ∙ later 20 4 24 refl) (nth eg 2 ∙ later 20 8 28 refl) (nth eg 3 ∙ later 20 12 32 refl) (nth eg 4 ∙ later 20 16 36 refl) e0 e1 e2 e3
+      ext-made s at (nth ef 0) (nth ef 1) (nth ef 2) (nth ef 3) (nth ef 4) (nth eg 0) (nth eg 1 ∙ word-later s at 20 4 24 refl) (nth eg 2 ∙ word-later s at 20 8 28 refl) (nth eg 3 ∙ word-later s at 20 12 32 refl) (nth eg 4 ∙ word-later s at 20 16 36 refl) e0 e1 e2 e3
     where
       nth : {x y : List ℕ} → x ≡ y → (k : ℕ) → getD x k 0 ≡ getD y k 0
       nth e k = ap (λ (z : List ℕ). getD z k 0) e

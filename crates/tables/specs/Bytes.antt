@@ -1,4 +1,4 @@
--- The two tables of a run as bytes: H execution rows and K extension rows, one after the other.
+-- Document 01, "Layouts" and "The tabler": the two tables of a run as bytes, H execution rows and K extension rows, one after the other.
 use Prim.Native.Nat.{ℕ, zero, suc}
 use mathlib.Core.List.{List, [], _++_}
 use Rattle.rows.specs.Rows.{bytesOfWords, execWords, extWords}

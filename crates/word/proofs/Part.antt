@@ -17,6 +17,10 @@ module _ (s : List ℕ) (at n : ℕ) where
   word-part k h =
       rw (byte-part k (omega arith), byte-part (k + 1) (omega arith), byte-part (k + 2) (omega arith), byte-part (k + 3) (omega arith), add-assoc at k 1, add-assoc at k 2, add-assoc at k 3)
 
+-- a word so far behind another is so far behind its start
+pub word-later : (s : List ℕ) (at k n m : ℕ) → k + n ≡ m → wordAt s (at + k + n) ≡ wordAt s (at + m)
+word-later s at k n m e = ap (wordAt s) (add-assoc at k n ∙ ap (λ (j : ℕ). at + j) e)
+
 -- the same of what is left from a byte on
 pub word-drop : (s : List ℕ) (at k : ℕ) → wordAt s (at + k) ≡ wordAt (drop at s) k
 word-drop s at k = simp (getD-drop, add-assoc)
