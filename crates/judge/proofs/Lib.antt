@@ -1,5 +1,4 @@
 pub mod Tuples
-pub mod Orders
 pub mod Balances
 pub mod Passed
 pub mod Joined

@@ -11,27 +11,22 @@ use borrow.Author.Tests.{ltb-true, eqb-true}
 use Rattle.word.specs.Word.{p, IsWord, _-ₚ_, _*ₚ_}
 use Rattle.word.specs.Bytes.{wordAt}
 use Rattle.word.proofs.WordLaws.{zero-or-one}
-use Rattle.form.specs.Form.{wellFormed}
-use Rattle.form.specs.Instruction.{instructionAt}
 use Rattle.rows.specs.Rows.{execAt, extAt}
 use Rattle.rules.specs.Given.{zero?}
 use Rattle.rules.specs.Execution.{execRules}
 use Rattle.rules.specs.Extension.{extRules}
 use Rattle.rules.specs.Sizes.{wordOf}
 use Rattle.rules.specs.Satisfies.{All, Words}
-use Rattle.judged.specs.Judged.{isWord, firstWord, firstMalformed, execRulesAt, execFailing, firstExec, extRulesAt, extFailing, firstExt}
+use Rattle.judged.specs.Judged.{isWord, firstWord, execRulesAt, execFailing, firstExec, extRulesAt, extFailing, firstExt}
 use Rattle.judged.proofs.Cases.{is-true}
 use Rattle.judged.proofs.FirstLaws.{first-past}
 use Rattle.judged.proofs.RuleLaws.{failing-holds, exec-numbered, ext-numbered}
 use Rattle.rules.specs.Sizes.{given, tables}
-use Rattle.judge.specs.Stages.{WellFormed}
+use Rattle.parts.specs.Words.{WellFormed}
 use Rattle.judge.specs.Bus.{Formed, Flagged}
 
 pub all-words : (bytes : List ℕ) (m : ℕ) → m ≡ firstWord bytes → length bytes / 4 ≤ m → Words bytes
 all-words bytes m e past k h = ltb-true (wordOf bytes k) p (first-past (isWord bytes) (length bytes / 4) (rw e at past) k h)
-
-pub all-formed : (program : List ℕ) (m : ℕ) → m ≡ firstMalformed (given program []) → length program / 48 ≤ m → WellFormed program
-all-formed program m e past = first-past (λ i. wellFormed (instructionAt program (48 * i))) (length program / 48) (rw e at past)
 
 module _ (program memory exec : List ℕ) (m : ℕ) (e : m ≡ firstExec (given program memory) (tables exec [])) (past : length exec / 32 ≤ m) where
   exec-holds : (r : ℕ) → r < length exec / 32 → All (execRulesAt (given program memory) (tables exec []) r)

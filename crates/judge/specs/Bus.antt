@@ -1,14 +1,13 @@
--- Document 01, "The bus": what its code is handed, and what it shows on the way.
+-- Document 01, "The bus": what its code is handed.
 use mathlib.Core.Path.{_≡_}
-use mathlib.Core.Bool.{Bool, true}
+use mathlib.Core.Bool.{true}
 use mathlib.Core.List.{List, []}
 use Prim.Native.Nat.{ℕ, _*_, _/_, _≤_, _<_}
 use lib.ListN.{length}
 use Rattle.form.specs.Form.{wellFormed}
 use Rattle.rows.specs.Rows.{extAt}
 use Rattle.rows.specs.declared.Ext.{Ext}
-use Rattle.rules.specs.Given.{zero?}
-use Rattle.rules.specs.Bus.{Tuple, pulls, pushedTo, pulledTo, instructionOf}
+use Rattle.rules.specs.Bus.{instructionOf}
 use Rattle.rules.specs.Sizes.{given, tables}
 
 -- what the instructions and the execution rules leave: each row's instruction is well-formed
@@ -25,11 +24,3 @@ pub record Flags (x : Ext) : Type 0 where
 
 abbrev pub Flagged : List ℕ → Type 0
 Flagged ext = (k : ℕ) → k < length ext / 120 → Flags (extAt ext (120 * k))
-
--- an extension row that pulls nothing
-abbrev pub idle : List ℕ → ℕ → Bool
-idle ext k = zero? (pulls (extAt ext (120 * k)))
-
--- the execution rows below r push what the extension rows below k pull
-abbrev pub InOrder : List ℕ → List ℕ → List ℕ → ℕ → ℕ → Type 0
-InOrder program exec ext r k = (σ : Tuple) → pushedTo (given program []) (tables exec ext) σ r ≡ pulledTo (tables exec ext) σ k

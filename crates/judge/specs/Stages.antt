@@ -1,21 +1,25 @@
 -- The judge's stages over bytes, by the definitions of `rules` and `judged`.
 use mathlib.Core.Path.{_≡_}
-use mathlib.Core.Bool.{true}
-use mathlib.Core.List.{List}
-use Prim.Native.Nat.{ℕ, _*_, _/_, _^_, _<_}
+use mathlib.Core.List.{List, []}
+use Prim.Native.Nat.{ℕ, _/_, _^_, _≤_, _<_}
 use lib.ListN.{length}
-use Rattle.form.specs.Form.{wellFormed}
-use Rattle.form.specs.Instruction.{instructionAt}
 use Rattle.answer.specs.declared.Answer.{Answer}
 use Rattle.rules.specs.Sizes.{given, tables}
-use Rattle.judged.specs.Judged.{words, instructions, start, execution, extension, bus}
+use Rattle.judged.specs.Judged.{words, instructions, start, execution, extension, bus, firstMalformed, firstExec, firstExt}
+use Rattle.parts.specs.Words.{WellFormed}
+use Rattle.paired.specs.Order.{InOrder}
+use Rattle.judge.specs.declared.Seen.{Seen}
 
 -- a length that leaves every place in 32 bits, as each that fits does
 abbrev pub Short : List ℕ → Type 0
 Short bytes = length bytes < 2 ^ 32
 
-abbrev pub WellFormed : List ℕ → Type 0
-WellFormed program = (i : ℕ) → i < length program / 48 → wellFormed (instructionAt program (48 * i)) ≡ true
+-- what the walks over the program and both tables found: the first instruction and rows that fail, and pulls that stand in the order of the pushes
+pub record Sees (program memory exec ext : List ℕ) (s : Seen) : Type 0 where
+  pub malformed-is : s .malformed ≡ firstMalformed (given program [])
+  pub exec-is : s .exec ≡ firstExec (given program memory) (tables exec [])
+  pub ext-is : s .ext ≡ firstExt (given [] memory) (tables [] ext)
+  pub in-order : length exec / 32 ≤ s .exec → WellFormed program → s .pulled ≤ length ext / 120 → InOrder program exec ext (length exec / 32) (s .pulled)
 
 -- the answer from a stage on: 5 to 7, 3 to 7, 2 to 7
 abbrev pub rulesOf : List ℕ → List ℕ → List ℕ → List ℕ → Answer

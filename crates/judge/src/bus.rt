@@ -1,13 +1,16 @@
-// 7 BUS: one walk settles tables whose groups stand in execution order, as a tabler's do; rounds settle those in any other order. What is
-// left, as every refusal is, is counted.
-use crate::in_order::in_order;
+// 7 BUS: tables whose groups stand in execution order, as a tabler's do, are settled by the walk over the execution rows, where no pull is left;
+// rounds settle those in any other order. What is left, as every refusal is, is counted.
 use crate::window::first_unequal;
 use answer::Answer;
+use paired::next_pull;
 use paired::pairs_up;
 ghost use mathlib.Core.Path.{_≡_};
 ghost use mathlib.Core.List.{[]};
+ghost use Prim.Native.Nat.{_/_, _≤_};
+ghost use lib.ListN.{length};
 ghost use Rattle.judged.specs.Judged.{bus};
 ghost use Rattle.rules.specs.Sizes.{given, tables};
+ghost use Rattle.paired.specs.Order.{InOrder};
 ghost use Rattle.judge.specs.Stages.{Short};
 ghost use Rattle.judge.specs.Bus.{Formed, Flagged};
 
@@ -35,13 +38,14 @@ fn counted(program: &[u8], exec: &[u8], ext: &[u8]) -> Answer
     Answer::Accepted
 }
 
-pub fn bus_answer(program: &[u8], exec: &[u8], ext: &[u8]) -> Answer
+pub fn bus_answer(program: &[u8], exec: &[u8], ext: &[u8], pulled: usize) -> Answer
     requires { ⌜ Formed (now program) (now exec) ⌝ }
     requires { ⌜ Flagged (now ext) ⌝ }
     requires { ⌜ Short (now exec) × Short (now ext) ⌝ }
+    requires { ⌜ (pulled ≤ length (now ext) / 120 → InOrder (now program) (now exec) (now ext) (length (now exec) / 32) pulled) ⌝ }
     ensures { λ r. ⌜ r ≡ bus (given (now (program .entry)) []) (tables (now (exec .entry)) (now (ext .entry))) ⌝ }
 {
-    if in_order(program, exec, ext) {
+    if next_pull(ext, pulled) == ext.len() / 120 {
         return Answer::Accepted;
     }
     if !pairs_up(program, exec, ext) {

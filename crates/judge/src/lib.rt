@@ -1,7 +1,6 @@
 // The judge: a program, a memory, a start and two tables, to an answer. It writes nothing.
 mod bus;
 mod choose;
-mod in_order;
 mod seek;
 mod sender;
 mod stage;
@@ -14,6 +13,15 @@ use parts::bad_part;
 use stage::words_answer;
 ghost use mathlib.Core.Path.{_≡_};
 ghost use Rattle.judged.specs.Judged.{judgeOf};
+
+// What one walk over the program and each table found: the first malformed instruction, the first execution row and the first extension row that
+// fail, and the extension row after the pulls that stand in the order of the pushes.
+struct Seen {
+    malformed: usize,
+    exec: usize,
+    ext: usize,
+    pulled: usize,
+}
 
 // A tuple, how often it is pushed, and how often it is pulled.
 struct Tally {

@@ -1,26 +1,30 @@
-// The stages after the sizes, each an early answer or the next stage. A start is 64 bits wide and is compared whole.
+// The stages after the sizes, each an early answer or the next stage. The program and each table are walked once, and what a walk found is the
+// answer when its stage comes. A start is 64 bits wide and is compared whole.
+use crate::Seen;
 use crate::bus::bus_answer;
 use answer::Answer;
-use parts::first_malformed;
 use parts::first_word;
+use parts::first_word_unless;
+use parts::program_walk;
 use rows::exec_row;
 use walks::exec_rule;
+use walks::exec_walk;
 use walks::ext_rule;
-use walks::first_exec;
-use walks::first_ext;
+use walks::ext_walk;
 ghost use mathlib.Core.Path.{_≡_};
 ghost use Prim.Native.Nat.{_<_, _^_};
 ghost use Rattle.rules.specs.Satisfies.{Words};
-ghost use Rattle.judge.specs.Stages.{wordsOf, programOf, rulesOf, Short, WellFormed};
+ghost use Rattle.parts.specs.Words.{WellFormed};
+ghost use Rattle.judge.specs.Stages.{wordsOf, programOf, rulesOf, Short, Sees};
 
 // 5 EXEC, 6 EXTENSION and 7 BUS.
-fn rules_answer(program: &[u8], memory: &[u8], exec: &[u8], ext: &[u8]) -> Answer
+fn rules_answer(program: &[u8], memory: &[u8], exec: &[u8], ext: &[u8], seen: Seen) -> Answer
     requires { ⌜ Short (now exec) × Short (now ext) ⌝ }
     requires { ⌜ Words (now ext) ⌝ }
-    requires { ⌜ WellFormed (now program) ⌝ }
+    requires { ⌜ WellFormed (now program) × Sees (now program) (now memory) (now exec) (now ext) seen ⌝ }
     ensures { λ r. ⌜ r ≡ rulesOf (now (program .entry)) (now (memory .entry)) (now (exec .entry)) (now (ext .entry)) ⌝ }
 {
-    let r = first_exec(program, memory, exec);
+    let r = seen.exec;
     if r < exec.len() / 32 {
         let rule = exec_rule(program, memory, exec, r);
         return Answer::Exec {
@@ -28,7 +32,7 @@ fn rules_answer(program: &[u8], memory: &[u8], exec: &[u8], ext: &[u8]) -> Answe
             rule,
         };
     }
-    let k = first_ext(memory, ext);
+    let k = seen.ext;
     if k < ext.len() / 120 {
         let rule = ext_rule(memory, ext, k);
         return Answer::Extension {
@@ -36,7 +40,7 @@ fn rules_answer(program: &[u8], memory: &[u8], exec: &[u8], ext: &[u8]) -> Answe
             rule,
         };
     }
-    bus_answer(program, exec, ext)
+    bus_answer(program, exec, ext, seen.pulled)
 }
 
 // 3 INSTRUCTION and 4 START, then the rules.
@@ -47,12 +51,13 @@ fn program_answer(
     fp: u64,
     exec: &[u8],
     ext: &[u8],
+    seen: Seen,
 ) -> Answer
     requires { ⌜ Short (now program) × Short (now exec) × Short (now ext) ⌝ }
-    requires { ⌜ Words (now ext) ⌝ }
+    requires { ⌜ Words (now ext) × Sees (now program) (now memory) (now exec) (now ext) seen ⌝ }
     ensures { λ r. ⌜ r ≡ programOf (now (program .entry)) (now (memory .entry)) pc fp (now (exec .entry)) (now (ext .entry)) ⌝ }
 {
-    let i = first_malformed(program);
+    let i = seen.malformed;
     if i < program.len() / 48 {
         return Answer::Instruction { place: i as u32 };
     }
@@ -65,7 +70,7 @@ fn program_answer(
     if start_fp != fp {
         return Answer::Start;
     }
-    rules_answer(program, memory, exec, ext)
+    rules_answer(program, memory, exec, ext, seen)
 }
 
 // 2 WORD by part, then the program.
@@ -80,7 +85,8 @@ pub fn words_answer(
     requires { ⌜ Short (now program) × Short (now memory) × Short (now exec) × Short (now ext) ⌝ }
     ensures { λ r. ⌜ r ≡ wordsOf (now (program .entry)) (now (memory .entry)) pc fp (now (exec .entry)) (now (ext .entry)) ⌝ }
 {
-    let a = first_word(program);
+    let listed = program_walk(program);
+    let a = first_word_unless(program, listed.words);
     if a < program.len() / 4 {
         return word_refused(1, a);
     }
@@ -88,15 +94,23 @@ pub fn words_answer(
     if b < memory.len() / 4 {
         return word_refused(2, b);
     }
-    let c = first_word(exec);
+    let ran = exec_walk(program, memory, exec, ext);
+    let c = first_word_unless(exec, ran.words);
     if c < exec.len() / 4 {
         return word_refused(3, c);
     }
-    let d = first_word(ext);
+    let extended = ext_walk(memory, ext);
+    let d = first_word_unless(ext, extended.words);
     if d < ext.len() / 4 {
         return word_refused(4, d);
     }
-    program_answer(program, memory, pc, fp, exec, ext)
+    let seen = Seen {
+        malformed: listed.at,
+        exec: ran.at,
+        ext: extended.at,
+        pulled: ran.pulled,
+    };
+    program_answer(program, memory, pc, fp, exec, ext, seen)
 }
 
 fn word_refused(part: u32, place: usize) -> Answer

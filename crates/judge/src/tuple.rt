@@ -1,22 +1,16 @@
-// How often a row pushes or pulls, and whether two rows do the same tuple.
+// How often a row pushes or pulls.
 use form::Instruction;
 use form::instruction_at;
-use paired::pulled_tuple;
-use paired::pushed_tuple;
-use paired::same;
-use rows::Exec;
 use rows::Ext;
 use rows::ext_row;
 use word::word_at;
 ghost use mathlib.Core.Path.{_≡_};
-ghost use mathlib.Core.Bool.{_&&_};
 ghost use mathlib.Core.List.{[]};
 ghost use lib.ListN.{length};
-ghost use lib.Dec.{eqb};
 ghost use Prim.Native.Nat.{_*_, _/_, _<_, _≤_};
 ghost use Rattle.rows.specs.Rows.{extAt};
 ghost use Rattle.rules.specs.Given.{either};
-ghost use Rattle.rules.specs.Bus.{sameTuple, pushed, pushes, pulled, pulls, instructionOf};
+ghost use Rattle.rules.specs.Bus.{pushes, pulls, instructionOf};
 ghost use Rattle.rules.specs.Sizes.{given, tables};
 ghost use Rattle.judge.specs.Bus.{Formed, Flags, Flagged};
 
@@ -57,12 +51,4 @@ pub fn pull_times(x: Ext) -> u32
     ensures { λ r. ⌜ (r ≡ pulls x) × (r ≤ 3) ⌝ }
 {
     x.start * (x.add + x.mul + x.peq)
-}
-
-// Whether an extension row pulls exactly what an execution row pushes once.
-pub fn matched(i: Instruction, x: Exec, y: Ext) -> bool
-    requires { ⌜ Flags y ⌝ }
-    ensures { λ r. ⌜ r ≡ (eqb (pulls y) 1 && sameTuple (pushed i x) (pulled y)) ⌝ }
-{
-    (pull_times(y) == 1) & same(pushed_tuple(i, x), pulled_tuple(y))
 }

@@ -1,3 +1,5 @@
 pub mod Tuples
 pub mod Totals
 pub mod Held
+pub mod Pulling
+pub mod Pushing

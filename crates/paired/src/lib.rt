@@ -1,12 +1,15 @@
 // The bus of tables whose groups stand in any order, settled in rounds where it balances. In each round the pulls of one class of tuples are
 // put into slots, and every push of that class takes one of its tuple.
 mod hash;
+mod order;
 mod put;
 mod slot;
 mod take;
 mod times;
 mod tuple;
 
+pub use order::after_pull;
+pub use order::next_pull;
 use put::put_rows;
 use put::starts;
 use slot::none_waits;

@@ -53,7 +53,7 @@ pub fn pulled_tuple(x: Ext) -> Sent
 
 // The same of the extension row that starts at a byte, of which no more is read.
 pub fn tuple_at(ext: &[u8], at: usize) -> Sent
-    requires { ⌜ at < 1099511627776 ⌝ }
+    requires { ⌜ at < 18446744073709551584 ⌝ }
     ensures { λ r. ⌜ tupleOf r ≡ pulled (extAt (now (ext .entry)) at) ⌝ }
 {
     let add = word_at(ext, at + 4);

@@ -1,3 +1,5 @@
 pub mod Powers
 pub mod Walks
+pub mod Eights
 pub mod Fits
+pub mod Formed

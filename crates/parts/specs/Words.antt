@@ -1,8 +1,20 @@
--- Eight words from one on: what the search for the first that is none passes at once.
-use Prim.Native.Nat.{ℕ, _+_}
-use mathlib.Core.Bool.{Bool, _&&_}
+-- Words and instructions that all pass, and eight words from one on: what a search passes at once.
+use Prim.Native.Nat.{ℕ, _+_, _*_, _/_, _<_}
+use mathlib.Core.Path.{_≡_}
+use mathlib.Core.Bool.{Bool, true, _&&_}
 use mathlib.Core.List.{List}
-use Rattle.judged.specs.Judged.{isWord}
+use lib.ListN.{length}
+use Rattle.form.specs.Form.{wellFormed}
+use Rattle.form.specs.Instruction.{instructionAt}
+use Rattle.judged.specs.Judged.{isWord, firstWord}
+
+-- no word is at or above p
+abbrev pub AllWords : List ℕ → Type 0
+AllWords bytes = firstWord bytes ≡ length bytes / 4
+
+-- no instruction is malformed
+abbrev pub WellFormed : List ℕ → Type 0
+WellFormed program = (i : ℕ) → i < length program / 48 → wellFormed (instructionAt program (48 * i)) ≡ true
 
 abbrev pub eightWords : List ℕ → ℕ → Bool
 eightWords bytes k =

@@ -1,9 +1,11 @@
 // One walk over a part: the first word at or above p, the first malformed instruction.
+use crate::Walked;
 use form::Instruction;
 use form::instruction_at;
 use form::well_formed;
 use word::word_at;
 ghost use mathlib.Core.Path.{_≡_};
+ghost use mathlib.Core.Bool.{true, _&&_};
 ghost use mathlib.Core.List.{[]};
 ghost use Prim.Native.Nat.{_+_, _-_, _*_, _/_, _≤_, _<_};
 ghost use lib.ListN.{length};
@@ -12,7 +14,7 @@ ghost use Rattle.form.specs.Instruction.{instructionAt};
 ghost use Rattle.judged.specs.First.{first};
 ghost use Rattle.judged.specs.Judged.{isWord, firstWord, firstMalformed};
 ghost use Rattle.rules.specs.Sizes.{given};
-ghost use Rattle.parts.specs.Words.{eightWords};
+ghost use Rattle.parts.specs.Words.{eightWords, AllWords};
 
 fn wide(x: u8) -> u32
     ensures { λ r. ⌜ (r ≡ x) × (r < 256) ⌝ }
@@ -37,7 +39,7 @@ fn is_word(s: &[u8], k: usize) -> bool
 }
 
 // The same of eight from one on, without a branch.
-fn are_words(s: &[u8], k: usize) -> bool
+pub fn are_words(s: &[u8], k: usize) -> bool
     requires { ⌜ 4 * k + 32 ≤ length (now s) ⌝ }
     ensures { λ r. ⌜ r ≡ eightWords (now (s .entry)) k ⌝ }
 {
@@ -82,6 +84,17 @@ pub fn first_word(bytes: &[u8]) -> usize
     i
 }
 
+// The same, where a walk before may have seen that there is none.
+pub fn first_word_unless(bytes: &[u8], seen: bool) -> usize
+    requires { ⌜ (seen ≡ true → AllWords (now bytes)) ⌝ }
+    ensures { λ r. ⌜ r ≡ firstWord (now (bytes .entry)) ⌝ }
+{
+    if seen {
+        return bytes.len() / 4;
+    }
+    first_word(bytes)
+}
+
 // Instruction i, which is there: it is read from its own 48 bytes with no test.
 fn instruction(program: &[u8], i: usize) -> Instruction
     requires { ⌜ 48 * i + 48 ≤ length (now program) ⌝ }
@@ -91,17 +104,33 @@ fn instruction(program: &[u8], i: usize) -> Instruction
     instruction_at(&program[at..at + 48], 0)
 }
 
-// The first malformed instruction; their number where there is none.
-pub fn first_malformed(program: &[u8]) -> usize
-    ensures { λ r. ⌜ r ≡ firstMalformed (given (now (program .entry)) []) ⌝ }
+// Whether the twelve words of instruction i are below p.
+fn twelve_words(program: &[u8], i: usize) -> bool
+    requires { ⌜ 48 * i + 48 ≤ length (now program) ⌝ }
+    ensures { λ r. ⌜ r ≡ (eightWords (now (program .entry)) (12 * i) && eightWords (now (program .entry)) (12 * i + 4)) ⌝ }
+{
+    are_words(program, 12 * i) & are_words(program, 12 * i + 4)
+}
+
+// The first malformed instruction, their number where there is none; and, as each is read anyway, whether all words were seen to be below p.
+pub fn program_walk(program: &[u8]) -> Walked
+    ensures { λ r. ⌜ (r .at ≡ firstMalformed (given (now (program .entry)) [])) × (r .words ≡ true → AllWords (now (program .entry))) ⌝ }
 {
     let n = program.len() / 48;
+    let mut words = true;
     let mut i = 0;
     while i < n {
         if !well_formed(instruction(program, i)) {
-            return i;
+            return Walked {
+                at: i,
+                words: false,
+            };
         }
+        words = words & twelve_words(program, i);
         i += 1;
     }
-    i
+    Walked {
+        at: i,
+        words: words & (12 * n == program.len() / 4),
+    }
 }

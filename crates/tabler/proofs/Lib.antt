@@ -5,4 +5,3 @@ pub mod Standing
 pub mod Going
 pub mod Running
 pub mod Ending
-pub mod Passed

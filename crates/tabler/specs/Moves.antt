@@ -1,11 +1,5 @@
 -- What the step's code asks for, and what it hands on: an enum for each outcome of the machine.
-use mathlib.Core.Bool.{true}
-use mathlib.Core.List.{List}
-use mathlib.Core.Path.{_≡_}
-use Prim.Native.Nat.{ℕ, _*_, _/_, _≤_, _<_, _^_}
-use lib.ListN.{length}
-use Rattle.form.specs.Form.{wellFormed}
-use Rattle.form.specs.Instruction.{instructionAt}
+use Prim.Native.Nat.{ℕ, _*_, _≤_, _^_}
 use Rattle.machine.specs.Step.{Outcome, goes, stuck}
 use Rattle.tabler.specs.declared.Moved.the-variants.{Stuck, Goes}
 use Rattle.tabler.specs.declared.Moved.{Moved}
@@ -19,7 +13,3 @@ pub record Ready (memory filled ext : ℕ) : Type 0 where
   pub memory-short : memory ≤ 2 ^ 31
   pub ext-short : ext ≤ 120 * 2 ^ 20
   pub filled-in : 120 * filled ≤ ext
-
--- what the test of the instructions leaves: each of the program's is well-formed
-abbrev pub WellFormed : List ℕ → Type 0
-WellFormed program = (i : ℕ) → i < length program / 48 → wellFormed (instructionAt program (48 * i)) ≡ true

@@ -6,7 +6,7 @@ use answer::four_numbers;
 ghost use lib.ListN.{length};
 ghost use Rattle.parts.specs.Parts.{Fitting};
 ghost use Rattle.tabler.specs.Ends.{runOf, Tabling};
-ghost use Rattle.tabler.specs.Moves.{WellFormed};
+ghost use Rattle.parts.specs.Words.{WellFormed};
 
 // 9 to 11 leave both tables all zero.
 pub fn finish(

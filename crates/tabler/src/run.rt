@@ -14,7 +14,7 @@ ghost use Rattle.rules.specs.Sizes.{wordOf};
 ghost use Rattle.judged.specs.Judged.{choose};
 ghost use Rattle.parts.specs.Parts.{Fitting};
 ghost use Rattle.tabler.specs.Ends.{Ended};
-ghost use Rattle.tabler.specs.Moves.{WellFormed};
+ghost use Rattle.parts.specs.Words.{WellFormed};
 ghost use Rattle.tabler.specs.Placed.{padded};
 
 // Every row is written: the last step has to stay, and past the last group is padding.

@@ -31,7 +31,8 @@ ghost use Rattle.tables.specs.Groups.{lengthOf, stepRow};
 ghost use Rattle.tables.specs.Rows.{formAt, columnB};
 ghost use Rattle.tabled.specs.Tabled.{machineOf};
 ghost use Rattle.terms.specs.Looked.{at, operandsOf};
-ghost use Rattle.tabler.specs.Moves.{Ready, WellFormed, movedOf};
+ghost use Rattle.parts.specs.Words.{WellFormed};
+ghost use Rattle.tabler.specs.Moves.{Ready, movedOf};
 ghost use Rattle.tabler.specs.Placed.{extBytes, kindRows, Stepped};
 
 // A malformed instruction is read as the jump that stands for it; no program with one is run.

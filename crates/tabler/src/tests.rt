@@ -1,8 +1,9 @@
 // The tabler's tests 2 to 4, and the run once they pass.
 use crate::finish::finish;
 use answer::Answer;
-use parts::first_malformed;
 use parts::first_word;
+use parts::first_word_unless;
+use parts::program_walk;
 use word::P;
 ghost use lib.ListN.{length};
 ghost use mathlib.Core.List.{[]};
@@ -24,7 +25,8 @@ pub fn table_words(
     requires { ⌜ Fitting (length (now program)) (length (now memory)) (length (now exec)) (length (now ext)) ⌝ }
     ensures { λ r. ⌜ Tabling (now (program .entry)) (now (memory .entry)) pc fp (now (exec .entry)) (now (ext .entry)) (words 1 (now (program .entry)) (words 2 (now (memory .entry)) (instructions (given (now (program .entry)) []) (startFits pc fp (runOf (now (program .entry)) (now (memory .entry)) pc fp (now (exec .entry)) (now (ext .entry))))))) (now (exec .exit)) (now (ext .exit)) r ⌝ }
 {
-    let w = first_word(program);
+    let walked = program_walk(program);
+    let w = first_word_unless(program, walked.words);
     if w < program.len() / 4 {
         return Answer::Word {
             part: 1,
@@ -38,7 +40,7 @@ pub fn table_words(
             place: v as u32,
         };
     }
-    let i = first_malformed(program);
+    let i = walked.at;
     if i < program.len() / 48 {
         return Answer::Instruction { place: i as u32 };
     }

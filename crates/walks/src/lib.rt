@@ -1,29 +1,45 @@
-// One walk over each table: the first row with a rule that fails. Each row is tried by plain comparisons; only where they don't settle it are the
-// polynomials taken. An extension row is read once, and kept for the row before; of the next execution row only pc and fp are used.
+// One walk over each table: the first row with a rule that fails, and what its rows tell on the way, as they are read anyway: whether their words
+// are below p, and whether pushes and pulls stand in the same order. Each row is tried by plain comparisons; only where they don't settle
+// it are the polynomials taken. An extension row is kept for the row before; of the next execution row only pc and fp are used.
 use exec_checks::exec_failing;
 use exec_checks::exec_holds;
 use ext_checks::ext_failing;
 use ext_checks::ext_holds;
 use form::instruction_at;
+use paired::after_pull;
+use paired::pushed_tuple;
+use parts::Walked;
+use parts::are_words;
 use rows::Exec;
 use rows::Ext;
 use rows::exec_row;
 use rows::ext_row;
 ghost use mathlib.Core.Path.{_≡_};
-ghost use mathlib.Core.Bool.{true};
+ghost use mathlib.Core.Bool.{true, _&&_};
 ghost use mathlib.Core.List.{[]};
-ghost use Prim.Native.Nat.{_*_, _/_, _<_};
+ghost use Prim.Native.Nat.{_+_, _*_, _/_, _<_, _≤_};
 ghost use lib.Dec.{ltb};
 ghost use lib.ListN.{length};
 ghost use Rattle.form.specs.Instruction.{instructionAt};
 ghost use Rattle.rows.specs.Rows.{execAt, extAt};
 ghost use Rattle.rules.specs.Given.{next, either};
+ghost use Rattle.rules.specs.Bus.{pushed, pushes};
+ghost use Rattle.parts.specs.Words.{eightWords, AllWords, WellFormed};
+ghost use Rattle.paired.specs.Order.{PullsTimes, InOrder};
 ghost use Rattle.exec_checks.specs.Parts.{execFails};
 ghost use Rattle.judged.specs.Judged.{execFailing, extFailing, firstExec, firstExt};
 ghost use Rattle.rules.specs.Sizes.{given, tables};
 
+// What the walk over the execution table tells: the first row that fails; whether all words were seen to be below p; and the extension row after
+// the last pull where every push so far was the next pull, or else a number past the end.
+pub struct Executed {
+    pub at: usize,
+    pub words: bool,
+    pub pulled: usize,
+}
+
 // The row paired with row r of n: the next one, and the last with itself.
-fn paired(n: usize, r: usize) -> usize
+fn next_row(n: usize, r: usize) -> usize
     requires { ⌜ r < n ⌝ }
     ensures { λ s. ⌜ (s ≡ next n r) × (s < n) ⌝ }
 {
@@ -54,7 +70,7 @@ fn exec_row_failing(program: &[u8], memory: &[u8], exec: &[u8], r: usize) -> u32
     ensures { λ s. ⌜ s ≡ execFailing (given (now (program .entry)) (now (memory .entry))) (tables (now (exec .entry)) []) r ⌝ }
 {
     let x = exec_row(exec, 32 * r);
-    let y = exec_row(exec, 32 * paired(exec.len() / 32, r));
+    let y = exec_row(exec, 32 * next_row(exec.len() / 32, r));
     let i = instruction_at(program, 48 * (x.pc as usize));
     exec_failing(program.len() / 48, memory, x, y, i)
 }
@@ -65,7 +81,7 @@ fn ext_row_failing(memory: &[u8], ext: &[u8], r: usize) -> u32
     ensures { λ s. ⌜ s ≡ extFailing (given [] (now (memory .entry))) (tables [] (now (ext .entry))) r ⌝ }
 {
     let x = ext_row(ext, 120 * r);
-    let y = ext_row(ext, 120 * paired(ext.len() / 120, r));
+    let y = ext_row(ext, 120 * next_row(ext.len() / 120, r));
     ext_failing(memory, x, y)
 }
 
@@ -83,43 +99,96 @@ fn exec_pair_holds(program: &[u8], memory: &[u8], x: Exec, y: Exec) -> bool
     exec_holds(count, memory, x, y, i)
 }
 
-// The first execution row with a rule that fails; their number where there is none.
-pub fn first_exec(program: &[u8], memory: &[u8], exec: &[u8]) -> usize
-    ensures { λ s. ⌜ s ≡ firstExec (given (now (program .entry)) (now (memory .entry))) (tables (now (exec .entry)) []) ⌝ }
+// The extension row after the one that pulls what an execution row pushes, from row k on: k where it pushes nothing, and past the end where the
+// next pull is another. A well-formed instruction with no opcode word is a precompile and pushes once; any other doesn't push.
+fn after_row(program: &[u8], ext: &[u8], x: Exec, k: usize) -> usize
+    ensures { λ s. ⌜ (WellFormed (now (program .entry)) → x .pc < length (now (program .entry)) / 48 → s ≤ length (now (ext .entry)) / 120
+        → (k ≤ length (now (ext .entry)) / 120)
+        × PullsTimes (now (ext .entry)) (pushed (instructionAt (now (program .entry)) (48 * x .pc)) x) (pushes (instructionAt (now (program .entry)) (48 * x .pc))) k s) ⌝ }
+{
+    let pc = x.pc as usize;
+    if program.len() / 48 <= pc {
+        return k;
+    }
+    let at = 48 * pc;
+    let i = instruction_at(&program[at..at + 48], 0);
+    if (i.mul == 0) & (i.jump == 0) & (i.aux == 0) {
+        return after_pull(ext, k, pushed_tuple(i, x));
+    }
+    k
+}
+
+// The first execution row with a rule that fails, their number where there is none; and what the rows told.
+pub fn exec_walk(program: &[u8], memory: &[u8], exec: &[u8], ext: &[u8]) -> Executed
+    ensures { λ e. ⌜ (e .at ≡ firstExec (given (now (program .entry)) (now (memory .entry))) (tables (now (exec .entry)) []))
+        × (e .words ≡ true → AllWords (now (exec .entry)))
+        × (length (now (exec .entry)) / 32 ≤ e .at → WellFormed (now (program .entry)) → e .pulled ≤ length (now (ext .entry)) / 120
+        → InOrder (now (program .entry)) (now (exec .entry)) (now (ext .entry)) (length (now (exec .entry)) / 32) (e .pulled)) ⌝ }
 {
     let n = exec.len() / 32;
+    let mut words = true;
+    let mut pulled = 0;
     let mut r = 0;
     while r < n {
         let x = exec_at(exec, r);
-        let y = exec_at(exec, paired(n, r));
+        let y = exec_at(exec, next_row(n, r));
         if !exec_pair_holds(program, memory, x, y) {
             if exec_row_failing(program, memory, exec, r) != 0 {
-                return r;
+                return Executed {
+                    at: r,
+                    words: false,
+                    pulled,
+                };
             }
         }
+        words = words & are_words(exec, 8 * r);
+        pulled = after_row(program, ext, x, pulled);
         r += 1;
     }
-    r
+    Executed {
+        at: r,
+        words: words & (8 * n == exec.len() / 4),
+        pulled,
+    }
 }
 
-// The first extension row with a rule that fails; their number where there is none.
-pub fn first_ext(memory: &[u8], ext: &[u8]) -> usize
-    ensures { λ s. ⌜ s ≡ firstExt (given [] (now (memory .entry))) (tables [] (now (ext .entry))) ⌝ }
+// Whether the thirty words of extension row r are below p.
+fn thirty_words(ext: &[u8], r: usize) -> bool
+    requires { ⌜ r < length (now ext) / 120 ⌝ }
+    ensures { λ b. ⌜ b ≡ (eightWords (now (ext .entry)) (30 * r) && eightWords (now (ext .entry)) (30 * r + 8) && eightWords (now (ext .entry)) (30 * r + 16) && eightWords (now (ext .entry)) (30 * r + 22)) ⌝ }
+{
+    are_words(ext, 30 * r)
+        & are_words(ext, 30 * r + 8)
+        & are_words(ext, 30 * r + 16)
+        & are_words(ext, 30 * r + 22)
+}
+
+// The same of extension rows.
+pub fn ext_walk(memory: &[u8], ext: &[u8]) -> Walked
+    ensures { λ e. ⌜ (e .at ≡ firstExt (given [] (now (memory .entry))) (tables [] (now (ext .entry)))) × (e .words ≡ true → AllWords (now (ext .entry))) ⌝ }
 {
     let n = ext.len() / 120;
     let mut x = ext_row(ext, 0);
+    let mut words = true;
     let mut r = 0;
     while r < n {
-        let y = ext_at(ext, paired(n, r));
+        let y = ext_at(ext, next_row(n, r));
         if !ext_holds(memory, x, y) {
             if ext_row_failing(memory, ext, r) != 0 {
-                return r;
+                return Walked {
+                    at: r,
+                    words: false,
+                };
             }
         }
+        words = words & thirty_words(ext, r);
         x = y;
         r += 1;
     }
-    r
+    Walked {
+        at: r,
+        words: words & (30 * n == ext.len() / 4),
+    }
 }
 
 // The rule that fails on execution row r; 0 where none does or there is no such row.

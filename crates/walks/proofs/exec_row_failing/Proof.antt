@@ -8,10 +8,10 @@ returns : tie.Need-returns
 unfolding execRules
 returns c =
     let exec-row = c .before .before .before .before .before .exec-row in
-    let paired = c .before .before .before .before .paired in
+    let next-row = c .before .before .before .before .next-row in
     let exec-row2 = c .before .before .before .exec-row2 in
     let instruction-at = c .before .instruction-at in
-    rw (c .exec-failing .ensures, instruction-at .ensures, exec-row2 .ensures, paired .ensures .0, exec-row .ensures)
+    rw (c .exec-failing .ensures, instruction-at .ensures, exec-row2 .ensures, next-row .ensures .0, exec-row .ensures)
 
 pub exec-row-failing-spec : {M : Type 1} → statement M
 exec-row-failing-spec =

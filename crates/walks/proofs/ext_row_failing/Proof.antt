@@ -8,9 +8,9 @@ returns : tie.Need-returns
 unfolding extRules
 returns c =
     let ext-row = c .before .before .before .ext-row in
-    let paired = c .before .before .paired in
+    let next-row = c .before .before .next-row in
     let ext-row2 = c .before .ext-row2 in
-    rw (c .ext-failing .ensures, ext-row2 .ensures, paired .ensures .0, ext-row .ensures)
+    rw (c .ext-failing .ensures, ext-row2 .ensures, next-row .ensures .0, ext-row .ensures)
 
 pub ext-row-failing-spec : {M : Type 1} → statement M
 ext-row-failing-spec =

@@ -1,6 +1,11 @@
 -- Pushes and pulls that match, in order or in rounds, leave no tuple unequal.
 use mathlib.Core.List.{[]}
 use borrow.Author.Tests.{not-false}
+use mathlib.Core.Path.{_≡_, sym, ap, _∙_}
+use Prim.Native.Nat.{_/_}
+use native.Mathlib.Omega.{arith}
+use lib.ListN.{length}
+use Rattle.rules.specs.Bus.{pulledTo}
 use Rattle.rules.specs.Sizes.{given, tables}
 use Rattle.judge.proofs.Balances.{all-equal}
 use borrow.Author.Needs.{needs}
@@ -10,8 +15,14 @@ use Rattle.judge.proofs.bus.bus_answer.Tie as tie
 returns : tie.Need-returns
 returns c =
     let start = c .before .before .before .before .before in
-    let in-order = c .before .in-order in
-    all-equal (given (start .args .program .now) []) (tables (start .args .exec .now) (start .args .ext .now)) (in-order .ensures (c .if1 .taken))
+    let left = c .before .next-pull in
+    let ext = start .args .ext .now in
+    let all : left .result ≡ length ext / 120 = c .if1 .taken in
+    all-equal (given (start .args .program .now) []) (tables (start .args .exec .now) ext)
+    (λ σ.
+    start .pre .1 .1 .1 (left .ensures .0 (omega (arith, all))) σ
+    ∙ sym (left .ensures .1 σ)
+    ∙ ap (pulledTo (tables [] ext) σ) all)
 
 returns-3 : tie.Need-returns-3
 returns-3 c =

@@ -7,49 +7,47 @@ use Rattle.judge.proofs.stage.rules_answer.Statement.{statement}
 use Rattle.judge.proofs.stage.rules_answer.Tie as tie
 
 returns : tie.Need-returns
-returns c = rw (c .exec-rule .ensures, sym (c .before .before .first-exec .ensures), lt-ltb _ _ (c .before .if1 .taken))
+returns c =
+    let start = c .before .before .before .before .before .before in
+    rw (c .exec-rule .ensures, sym (start .pre .1 .1 .1 .exec-is), lt-ltb _ _ (c .before .if1 .taken))
 
 returns-2 : tie.Need-returns-2
 returns-2 c =
-    let start = c .before .before .before .before .before .before .before .before .before in
-    let first-exec = c .before .before .before .before .first-exec in
-    let if1 = c .before .before .before .if1 in
-    let first-ext = c .before .before .first-ext in
+    let start = c .before .before .before .before .before .before .before in
+    let if1 = c .before .before .if1 in
     let if2 = c .before .if2 in
+    let seen = start .pre .1 .1 .1 in
     rw (
-      sym (first-exec .ensures),
+      sym (seen .exec-is),
       le-ltb _ _ (if1 .left),
       (rw (lt-ltb _ _ (if2 .taken)) at (c .ext-rule .ensures)) ∙ ext-failing-same (start .args .program .now) (start .args .memory .now) (start .args .exec .now)
-          (start .args .ext .now) (first-ext .result),
-      sym (first-ext .ensures ∙ first-ext-same (start .args .program .now) (start .args .memory .now) (start .args .exec .now) (start .args .ext .now)),
+          (start .args .ext .now) (start .args .seen .ext),
+      sym (seen .ext-is ∙ first-ext-same (start .args .program .now) (start .args .memory .now) (start .args .exec .now) (start .args .ext .now)),
       lt-ltb _ _ (if2 .taken),
     )
 
 bus-answer-requires : tie.Need-bus-answer-requires
 bus-answer-requires c κs =
-    let start = c .before .before .before .before .before .before .before .before in
-    let first-exec = c .before .before .before .first-exec in
-    let if1 = c .before .before .if1 in
-    let first-ext = c .before .first-ext in
+    let start = c .before .before .before .before .before .before in
+    let if1 = c .before .if1 in
+    let well = start .pre .1 .1 .0 in
+    let seen = start .pre .1 .1 .1 in
     let formed =
-    rows-formed (start .args .program .now) (start .args .memory .now) (start .args .exec .now) (first-exec .result) (first-exec .ensures)
-    (if1 .left)
-    (start .pre .1 .1) in
+    rows-formed (start .args .program .now) (start .args .memory .now) (start .args .exec .now) (start .args .seen .exec) (seen .exec-is) (if1 .left) well in
     let flagged =
-    rows-flagged (start .args .memory .now) (start .args .ext .now) (first-ext .result) (first-ext .ensures) (c .if2 .left) (start .pre .1 .0) in
-    (formed, (flagged, start .pre .0))
+    rows-flagged (start .args .memory .now) (start .args .ext .now) (start .args .seen .ext) (seen .ext-is) (c .if2 .left) (start .pre .1 .0) in
+    (formed, (flagged, (start .pre .0, seen .in-order (if1 .left) well)))
 
 returns-3 : tie.Need-returns-3
 returns-3 c =
-    let start = c .before .before .before .before .before .before .before .before .before in
-    let first-exec = c .before .before .before .before .first-exec in
-    let if1 = c .before .before .before .if1 in
-    let first-ext = c .before .before .first-ext in
+    let start = c .before .before .before .before .before .before .before in
+    let if1 = c .before .before .if1 in
     let if2 = c .before .if2 in
+    let seen = start .pre .1 .1 .1 in
     rw (
-      sym (first-exec .ensures),
+      sym (seen .exec-is),
       le-ltb _ _ (if1 .left),
-      sym (first-ext .ensures ∙ first-ext-same (start .args .program .now) (start .args .memory .now) (start .args .exec .now) (start .args .ext .now)),
+      sym (seen .ext-is ∙ first-ext-same (start .args .program .now) (start .args .memory .now) (start .args .exec .now) (start .args .ext .now)),
       le-ltb _ _ (if2 .left),
     )
     (c .bus-answer .ensures)
@@ -59,10 +57,8 @@ rules-answer-spec =
     tie.close
     (tie.spec
     (λ c κs. search needs)
-    (λ c κs. search needs)
     (λ c. search needs)
     returns
-    (λ c κs. search needs)
     (λ c κs. search needs)
     (λ c. search needs)
     returns-2

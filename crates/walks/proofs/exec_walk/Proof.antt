@@ -1,0 +1,156 @@
+-- Each row passed has no rule that fails, by comparisons or by the polynomials, and the walk stops at the first that has one. Its words are seen, and
+-- what it pushes is the next pull.
+use borrow.Author.Needs.{needs}
+use borrow.Author.Tests.{eq-eqb, ne-eqb, eqb-true, ltb-true, not-false}
+use mathlib.Core.Bool.{true, false≢true}
+use mathlib.Core.Logic.{⊎-elim}
+use mathlib.Core.Path.{_≡_, refl, sym, ap, _∙_, subst}
+use mathlib.Core.List.{List, [], _∷_}
+use Prim.Native.Nat.{ℕ, _+_, _-_, _*_, _/_, _<_, _≤_}
+use native.Mathlib.Omega.{arith}
+use lib.Dec.{eqb}
+use lib.ListN.{length}
+use Rattle.form.specs.Instruction.{instructionAt}
+use Rattle.rows.specs.Rows.{execAt}
+use Rattle.rows.specs.declared.Exec.{Exec}
+use Rattle.rules.specs.Given.{zero?, next}
+use Rattle.rules.specs.Execution.{execRules}
+use Rattle.rules.specs.Satisfies.{All}
+use Rattle.exec_checks.specs.Parts.{execFails}
+use Rattle.form.proofs.Cases.{each}
+use Rattle.rules.specs.Given.{either}
+use Rattle.rules.specs.Bus.{Tuple, sameTuple, pushed, pushes, instructionOf}
+use Rattle.judged.specs.Judged.{isWord, firstWord, execRulesAt, execFailing, firstExec}
+use Rattle.judged.proofs.Cases.{is-true}
+use Rattle.judged.proofs.RuleLaws.{failing-holds, exec-numbered}
+use Rattle.parts.specs.Words.{WellFormed}
+use Rattle.parts.proofs.Eights.{eight}
+use Rattle.paired.specs.Order.{PullsTimes, InOrder}
+use Rattle.paired.proofs.Totals.{one-more}
+use Rattle.rules.specs.Sizes.{given, tables}
+use Rattle.parts.proofs.Walks.{Walk, begins, goes-past, goes-past-all, finds, finds-none}
+use Rattle.walks.proofs.exec_walk.Statement.{statement}
+use Rattle.walks.proofs.exec_walk.Tie as tie
+
+-- how often row r pushes a tuple
+abbrev pushesOf : List ℕ → List ℕ → Tuple → ℕ → ℕ
+pushesOf program exec σ r =
+    let i = instructionOf (given program []) (tables exec []) r in
+    either (sameTuple (pushed i (execAt exec (32 * r))) σ) (pushes i) 0
+
+-- the rules of the rows that are carried are the row's
+same-rules : (program memory exec : List ℕ) (r : ℕ) (x y : Exec)
+    → x ≡ execAt exec (32 * r)
+    → y ≡ execAt exec (32 * next (length exec / 32) r)
+    → execFails (length program / 48) memory x y (instructionAt program (48 * x .pc)) ≡ execFailing (given program memory) (tables exec []) r
+unfolding execRules
+same-rules program memory exec r x y ex ey = rw (ex, ey)
+
+module _ (program memory exec : List ℕ) (r : ℕ) (none : execFailing (given program memory) (tables exec []) r ≡ 0) where
+  rules-hold : All (execRulesAt (given program memory) (tables exec []) r)
+  rules-hold = failing-holds (execRulesAt (given program memory) (tables exec []) r) (exec-numbered (given program memory) _ _ _) none
+
+  -- a row whose rules hold has a pc in the program
+  pc-inside : execAt exec (32 * r) .pc < length program / 48
+  unfolding execRules
+  pc-inside = ltb-true (execAt exec (32 * r) .pc) (length program / 48) (is-true _ (rules-hold .0))
+
+-- one row more, and the pulls that it pushes
+row-more : (program exec ext : List ℕ) (r k s : ℕ) (x : Exec)
+    → x ≡ execAt exec (32 * r)
+    → PullsTimes ext (pushed (instructionAt program (48 * x .pc)) x) (pushes (instructionAt program (48 * x .pc))) k s
+    → InOrder program exec ext r k → InOrder program exec ext (r + 1) s
+row-more program exec ext r k s x is more same σ =
+    let read = subst (λ (z : Exec). PullsTimes ext (pushed (instructionAt program (48 * z .pc)) z) (pushes (instructionAt program (48 * z .pc))) k s) is more σ in
+    omega (arith, one-more (pushesOf program exec σ) r, same σ, read)
+
+abbrev Inv-loop : tie.InvT-loop
+Inv-loop program memory exec ext n words₀ pulled₀ r₀ words pulled r =
+    (n ≡ length exec / 32)
+    × Walk (λ s. zero? (execFailing (given program memory) (tables exec []) s)) (length exec / 32) (firstExec (given program memory) (tables exec [])) r
+    × (words ≡ true → Walk (isWord exec) (length exec / 4) (firstWord exec) (8 * r))
+    × (WellFormed program → pulled ≤ length ext / 120 → InOrder program exec ext r pulled)
+
+abbrev μ-loop : tie.MeasureT-loop
+μ-loop program memory exec ext n words₀ pulled₀ r₀ words pulled r = n - r
+
+loop-holds : tie.Need-loop-holds Inv-loop μ-loop
+loop-holds c = (refl, begins _ _, λ _. begins _ _, λ well h σ. refl)
+
+returns : tie.Need-returns Inv-loop μ-loop
+returns c = (
+  finds (c .before .before .before .before .before .before .before .before .loop .inv .1) (omega arith)
+      (ne-eqb _ _ (λ e. c .if2 .taken (c .before .exec-row-failing .ensures ∙ e))),
+  (λ e. absurd (false≢true e)),
+  λ h. absurd (omega arith),
+)
+
+add-r : tie.Need-add-r Inv-loop μ-loop
+add-r c =
+    let inside = c .before .before .before .before .before .before .before .loop-test .taken in
+    let args = c .before .before .before .before .before .before .before .before .before .before .before .before .before in
+    omega (arith, inside, args .good)
+
+loop-again : tie.Need-loop-again Inv-loop μ-loop
+loop-again c =
+    let tried = c .before .before in
+    let held = tried .before .exec-pair-holds in
+    let second = tried .before .before .exec-at2 in
+    let after = tried .before .before .before .next-row in
+    let first = tried .before .before .before .before .exec-at in
+    let inside = tried .before .before .before .before .before .loop-test .taken in
+    let loop = tried .before .before .before .before .before .before .loop in
+    let args = tried .before .before .before .before .before .before .before .before .before .before .before .args in
+    let exec = args .exec .now in
+    let y-is : second .result ≡ execAt exec (32 * next (length exec / 32) (loop .r)) = second .ensures ∙ ap (λ (k : ℕ). execAt exec (32 * k)) (after .ensures .0) in
+    let same = same-rules (args .program .now) (args .memory .now) exec (loop .r) (first .result) (second .result) (first .ensures) y-is in
+    let passes = ⊎-elim (λ w. sym (w .1 .ensures) ∙ w .2 .left) (λ w. sym same ∙ held .ensures (not-false _ (w .left))) (tried .if1 .came) in
+    let fetched = subst (λ (x : Exec). x .pc < length (args .program .now) / 48) (sym (first .ensures)) (pc-inside (args .program .now) (args .memory .now) exec (loop .r) passes) in (
+      refl,
+      goes-past (loop .inv .1) (omega (arith, inside)) (eq-eqb _ _ passes),
+      (λ e.
+          let both = each (loop .words) (c .before .are-words .result ∷ []) e in
+          let next : 8 * (loop .r + 1) ≡ 8 * loop .r + 8 = omega arith in
+          rw next (goes-past-all (loop .inv .2 (both .0)) 8 (omega (arith, inside)) (eight exec (8 * loop .r) (sym (c .before .are-words .ensures) ∙ both .1)))),
+      λ well h.
+          let more = c .after-row .ensures well fetched h in
+          row-more (args .program .now) exec (args .ext .now) (loop .r) (loop .pulled) (c .after-row .result) (first .result) (first .ensures) (more .1) (loop .inv .3 well (more .0)),
+    )
+
+returns-2 : tie.Need-returns-2 Inv-loop μ-loop
+returns-2 c =
+    let loop = c .before .loop in
+    let exec = c .before .before .before .before .before .before .args .exec .now in
+    let program = c .before .before .before .before .before .before .args .program .now in
+    let ext = c .before .before .before .before .before .before .args .ext .now in (
+      finds-none (loop .inv .1) (c .loop-test .left),
+      (λ e.
+          let both = each (loop .words) (eqb (8 * (length exec / 32)) (length exec / 4) ∷ []) e in
+          let ended = eqb-true (8 * (length exec / 32)) (length exec / 4) (both .1) in
+          sym (finds-none (loop .inv .2 (both .0)) (omega arith)) ∙ omega arith),
+      λ h well few.
+          let all : loop .r ≡ length exec / 32 = omega arith in
+          subst (λ (n : ℕ). InOrder program exec ext n (loop .pulled)) all (loop .inv .3 well few),
+    )
+
+pub exec-walk-spec : {M : Type 1} → statement M
+exec-walk-spec =
+    tie.close
+    (tie.spec
+    Inv-loop
+    μ-loop
+    loop-holds
+    (λ c κs. search needs)
+    (λ c κs. search needs)
+    (λ c κs. search needs)
+    (λ c κs. search needs)
+    (λ c κs. search needs)
+    returns
+    (λ c. search needs)
+    (λ c κs. search needs)
+    (λ c κs. search needs)
+    add-r
+    (λ c. search needs)
+    loop-again
+    (λ c. search needs)
+    returns-2)
