@@ -1,15 +1,22 @@
--- What the walk over the program leaves, where it found no instruction that is malformed.
+-- What a walk leaves, where it found no instruction that is malformed, or saw that all words are below p.
 -- Assumes nothing.
-use mathlib.Core.Path.{_≡_}
+use mathlib.Core.Path.{_≡_, refl, sym}
+use mathlib.Core.Bool.{Bool, true, false}
 use mathlib.Core.List.{List, []}
 use Prim.Native.Nat.{ℕ, _*_, _/_, _≤_}
 use lib.ListN.{length}
 use Rattle.form.specs.Form.{wellFormed}
 use Rattle.form.specs.Instruction.{instructionAt}
 use Rattle.rules.specs.Sizes.{given}
-use Rattle.judged.specs.Judged.{firstMalformed}
+use Rattle.rules.specs.Given.{either}
+use Rattle.judged.specs.Judged.{firstWord, firstMalformed}
 use Rattle.judged.proofs.FirstLaws.{first-past}
-use Rattle.parts.specs.Words.{WellFormed}
+use Rattle.parts.specs.Words.{AllWords, WellFormed}
 
 pub all-formed : (program : List ℕ) (m : ℕ) → m ≡ firstMalformed (given program []) → length program / 48 ≤ m → WellFormed program
 all-formed program m e past = first-past (λ i. wellFormed (instructionAt program (48 * i))) (length program / 48) (rw e at past)
+
+-- the first word at or above p, by what a walk saw
+pub seen-words : (bytes : List ℕ) (seen : Bool) → (seen ≡ true → AllWords bytes) → either seen (length bytes / 4) (firstWord bytes) ≡ firstWord bytes
+seen-words bytes true all = sym (all refl)
+seen-words bytes false all = refl

@@ -8,6 +8,10 @@ use Rattle.form.specs.Form.{wellFormed}
 use Rattle.form.specs.Instruction.{instructionAt}
 use Rattle.judged.specs.Judged.{isWord, firstWord}
 
+-- the n words from i on are below p
+abbrev pub WordsFrom : List ℕ → ℕ → ℕ → Type 0
+WordsFrom bytes i n = (j : ℕ) → j < n → isWord bytes (i + j) ≡ true
+
 -- no word is at or above p
 abbrev pub AllWords : List ℕ → Type 0
 AllWords bytes = firstWord bytes ≡ length bytes / 4

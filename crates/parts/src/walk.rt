@@ -8,11 +8,13 @@ ghost use mathlib.Core.Path.{_≡_};
 ghost use mathlib.Core.Bool.{true, _&&_};
 ghost use mathlib.Core.List.{[]};
 ghost use Prim.Native.Nat.{_+_, _-_, _*_, _/_, _≤_, _<_};
+ghost use lib.Dec.{leb};
 ghost use lib.ListN.{length};
 ghost use Rattle.word.specs.Bytes.{wordAt};
 ghost use Rattle.form.specs.Instruction.{instructionAt};
 ghost use Rattle.judged.specs.First.{first};
 ghost use Rattle.judged.specs.Judged.{isWord, firstWord, firstMalformed};
+ghost use Rattle.rules.specs.Given.{either};
 ghost use Rattle.rules.specs.Sizes.{given};
 ghost use Rattle.parts.specs.Words.{eightWords, AllWords};
 
@@ -39,7 +41,7 @@ fn is_word(s: &[u8], k: usize) -> bool
 }
 
 // The same of eight from one on, without a branch.
-pub fn are_words(s: &[u8], k: usize) -> bool
+fn eight_words(s: &[u8], k: usize) -> bool
     requires { ⌜ 4 * k + 32 ≤ length (now s) ⌝ }
     ensures { λ r. ⌜ r ≡ eightWords (now (s .entry)) k ⌝ }
 {
@@ -53,6 +55,20 @@ pub fn are_words(s: &[u8], k: usize) -> bool
         & is_word(s, k + 7)
 }
 
+// Whether eight words from one on are there, and are words.
+pub fn are_words(s: &[u8], k: usize) -> bool
+    ensures { λ r. ⌜ r ≡ (leb (k + 8) (length (now (s .entry)) / 4) && eightWords (now (s .entry)) k) ⌝ }
+{
+    let n = s.len() / 4;
+    if n < 8 {
+        return false;
+    }
+    if n - 8 < k {
+        return false;
+    }
+    eight_words(s, k)
+}
+
 // The first eight of which not all are words, or fewer than eight at the end: the search goes on from there.
 fn first_eight(bytes: &[u8]) -> usize
     ensures { λ r. ⌜ (r ≤ length (now (bytes .entry)) / 4)
@@ -61,7 +77,7 @@ fn first_eight(bytes: &[u8]) -> usize
     let n = bytes.len() / 4;
     let mut i = 0;
     while i + 8 <= n {
-        if !are_words(bytes, i) {
+        if !eight_words(bytes, i) {
             return i;
         }
         i += 8;
@@ -84,10 +100,9 @@ pub fn first_word(bytes: &[u8]) -> usize
     i
 }
 
-// The same, where a walk before may have seen that there is none.
+// The same, where no walk before has seen that there is none.
 pub fn first_word_unless(bytes: &[u8], seen: bool) -> usize
-    requires { ⌜ (seen ≡ true → AllWords (now bytes)) ⌝ }
-    ensures { λ r. ⌜ r ≡ firstWord (now (bytes .entry)) ⌝ }
+    ensures { λ r. ⌜ r ≡ either seen (length (now (bytes .entry)) / 4) (firstWord (now (bytes .entry))) ⌝ }
 {
     if seen {
         return bytes.len() / 4;
@@ -109,7 +124,7 @@ fn twelve_words(program: &[u8], i: usize) -> bool
     requires { ⌜ 48 * i + 48 ≤ length (now program) ⌝ }
     ensures { λ r. ⌜ r ≡ (eightWords (now (program .entry)) (12 * i) && eightWords (now (program .entry)) (12 * i + 4)) ⌝ }
 {
-    are_words(program, 12 * i) & are_words(program, 12 * i + 4)
+    eight_words(program, 12 * i) & eight_words(program, 12 * i + 4)
 }
 
 // The first malformed instruction, their number where there is none; and, as each is read anyway, whether all words were seen to be below p.

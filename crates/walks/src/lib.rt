@@ -15,16 +15,16 @@ use rows::Ext;
 use rows::exec_row;
 use rows::ext_row;
 ghost use mathlib.Core.Path.{_≡_};
-ghost use mathlib.Core.Bool.{true, _&&_};
+ghost use mathlib.Core.Bool.{true};
 ghost use mathlib.Core.List.{[]};
-ghost use Prim.Native.Nat.{_+_, _*_, _/_, _<_, _≤_};
+ghost use Prim.Native.Nat.{_*_, _/_, _<_, _≤_};
 ghost use lib.Dec.{ltb};
 ghost use lib.ListN.{length};
 ghost use Rattle.form.specs.Instruction.{instructionAt};
 ghost use Rattle.rows.specs.Rows.{execAt, extAt};
 ghost use Rattle.rules.specs.Given.{next, either};
 ghost use Rattle.rules.specs.Bus.{pushed, pushes};
-ghost use Rattle.parts.specs.Words.{eightWords, AllWords, WellFormed};
+ghost use Rattle.parts.specs.Words.{WordsFrom, AllWords, WellFormed};
 ghost use Rattle.paired.specs.Order.{PullsTimes, InOrder};
 ghost use Rattle.exec_checks.specs.Parts.{execFails};
 ghost use Rattle.judged.specs.Judged.{execFailing, extFailing, firstExec, firstExt};
@@ -155,7 +155,7 @@ pub fn exec_walk(program: &[u8], memory: &[u8], exec: &[u8], ext: &[u8]) -> Exec
 // Whether the thirty words of extension row r are below p.
 fn thirty_words(ext: &[u8], r: usize) -> bool
     requires { ⌜ r < length (now ext) / 120 ⌝ }
-    ensures { λ b. ⌜ b ≡ (eightWords (now (ext .entry)) (30 * r) && eightWords (now (ext .entry)) (30 * r + 8) && eightWords (now (ext .entry)) (30 * r + 16) && eightWords (now (ext .entry)) (30 * r + 22)) ⌝ }
+    ensures { λ b. ⌜ (b ≡ true → WordsFrom (now (ext .entry)) (30 * r) 30) ⌝ }
 {
     are_words(ext, 30 * r)
         & are_words(ext, 30 * r + 8)

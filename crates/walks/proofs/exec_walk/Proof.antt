@@ -24,7 +24,7 @@ use Rattle.judged.specs.Judged.{isWord, firstWord, execRulesAt, execFailing, fi
 use Rattle.judged.proofs.Cases.{is-true}
 use Rattle.judged.proofs.RuleLaws.{failing-holds, exec-numbered}
 use Rattle.parts.specs.Words.{WellFormed}
-use Rattle.parts.proofs.Eights.{eight}
+use Rattle.parts.proofs.Eights.{eight, eight-seen}
 use Rattle.paired.specs.Order.{PullsTimes, InOrder}
 use Rattle.paired.proofs.Totals.{one-more}
 use Rattle.rules.specs.Sizes.{given, tables}
@@ -111,7 +111,7 @@ loop-again c =
       (λ e.
           let both = each (loop .words) (c .before .are-words .result ∷ []) e in
           let next : 8 * (loop .r + 1) ≡ 8 * loop .r + 8 = omega arith in
-          rw next (goes-past-all (loop .inv .2 (both .0)) 8 (omega (arith, inside)) (eight exec (8 * loop .r) (sym (c .before .are-words .ensures) ∙ both .1)))),
+          rw next (goes-past-all (loop .inv .2 (both .0)) 8 (omega (arith, inside)) (eight exec (8 * loop .r) (eight-seen exec (8 * loop .r) (sym (c .before .are-words .ensures) ∙ both .1))))),
       λ well h.
           let more = c .after-row .ensures well fetched h in
           row-more (args .program .now) exec (args .ext .now) (loop .r) (loop .pulled) (c .after-row .result) (first .result) (first .ensures) (more .1) (loop .inv .3 well (more .0)),

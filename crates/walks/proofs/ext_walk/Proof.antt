@@ -1,7 +1,7 @@
 -- Each row passed has no rule that fails, by comparisons or by the polynomials, and the walk stops at the first that has one.
 use borrow.Author.Needs.{needs}
 use borrow.Author.Tests.{eq-eqb, ne-eqb, eqb-true, not-false, lt-ltb}
-use mathlib.Core.Bool.{true, _&&_, false≢true}
+use mathlib.Core.Bool.{true, false≢true}
 use mathlib.Core.Logic.{⊎-elim}
 use mathlib.Core.Path.{_≡_, refl, sym, ap, _∙_}
 use mathlib.Core.List.{List, [], _∷_}
@@ -16,8 +16,6 @@ use Rattle.rules.specs.Extension.{extRules}
 use Rattle.ext_checks.specs.ExtParts.{extFails}
 use Rattle.form.proofs.Cases.{each}
 use Rattle.judged.specs.Judged.{isWord, firstWord, extFailing, firstExt}
-use Rattle.parts.specs.Words.{eightWords}
-use Rattle.parts.proofs.Eights.{Run, eight, eight-more}
 use Rattle.rules.specs.Sizes.{given, tables}
 use Rattle.parts.proofs.Walks.{Walk, begins, goes-past, goes-past-all, finds, finds-none}
 use Rattle.walks.proofs.ext_walk.Statement.{statement}
@@ -34,14 +32,6 @@ same-rules memory ext r x y ex ey = rw (ex, ey)
 -- the row after one, where there is one, is the row paired with it
 next-row : (ext : List ℕ) (n r : ℕ) (y : Ext) → y ≡ extAt ext (120 * next n r) → r + 1 < n → y ≡ extAt ext (120 * (r + 1))
 next-row ext n r y e h = rw (lt-ltb _ _ h) at e
-
-thirty : (ext : List ℕ) (r : ℕ) → (eightWords ext (30 * r) && eightWords ext (30 * r + 8) && eightWords ext (30 * r + 16) && eightWords ext (30 * r + 22)) ≡ true
-    → Run ext (30 * r) 30
-thirty ext r e =
-    let four = each (eightWords ext (30 * r)) (eightWords ext (30 * r + 8) ∷ eightWords ext (30 * r + 16) ∷ eightWords ext (30 * r + 22) ∷ []) e in
-    let sixteen = eight-more ext (30 * r) 8 8 (omega arith) (eight ext (30 * r) (four .0)) (four .1 .0) in
-    let twenty-four = eight-more ext (30 * r) 16 16 (omega arith) sixteen (four .1 .1 .0) in
-    eight-more ext (30 * r) 24 22 (omega arith) twenty-four (four .1 .1 .1)
 
 abbrev Inv-loop : tie.InvT-loop
 Inv-loop memory ext n x₀ words₀ r₀ x words r =
@@ -80,7 +70,7 @@ loop-again c =
       λ e.
           let both = each (loop .words) (c .thirty-words .result ∷ []) e in
           let next : 30 * (loop .r + 1) ≡ 30 * loop .r + 30 = omega arith in
-          rw next (goes-past-all (loop .inv .3 (both .0)) 30 (omega arith) (thirty ext (loop .r) (sym (c .thirty-words .ensures) ∙ both .1))),
+          rw next (goes-past-all (loop .inv .3 (both .0)) 30 (omega arith) (c .thirty-words .ensures (both .1))),
     )
 
 returns-2 : tie.Need-returns-2 Inv-loop μ-loop

@@ -25,7 +25,7 @@ returns c = let walk = c .before .before .before .loop .inv .1 in (walk .within,
 
 loop-again : tie.Need-loop-again Inv-loop μ-loop
 loop-again c =
-    let words = sym (c .before .are-words .ensures) ∙ not-false _ (c .if1 .left) in
+    let words = sym (c .before .eight-words .ensures) ∙ not-false _ (c .if1 .left) in
     let at = c .before .before .before in
     (refl, goes-past-all (at .loop .inv .1) 8 (omega arith) (eight (at .before .before .args .bytes .now) (at .loop .i) words))
 

@@ -13,13 +13,13 @@ use Rattle.form.specs.Instruction.{instructionAt}
 use Rattle.form.proofs.Cases.{each}
 use Rattle.judged.specs.Judged.{isWord, firstWord, firstMalformed}
 use Rattle.rules.specs.Sizes.{given}
-use Rattle.parts.specs.Words.{eightWords}
-use Rattle.parts.proofs.Eights.{Run, eight, eight-more}
+use Rattle.parts.specs.Words.{eightWords, WordsFrom}
+use Rattle.parts.proofs.Eights.{eight, eight-more}
 use Rattle.parts.proofs.Walks.{Walk, begins, goes-past, goes-past-all, finds, finds-none}
 use Rattle.parts.proofs.walk.program_walk.Statement.{statement}
 use Rattle.parts.proofs.walk.program_walk.Tie as tie
 
-twelve : (program : List ℕ) (i : ℕ) → (eightWords program (12 * i) && eightWords program (12 * i + 4)) ≡ true → Run program (12 * i) 12
+twelve : (program : List ℕ) (i : ℕ) → (eightWords program (12 * i) && eightWords program (12 * i + 4)) ≡ true → WordsFrom program (12 * i) 12
 twelve program i e =
     let both = each (eightWords program (12 * i)) (eightWords program (12 * i + 4) ∷ []) e in
     eight-more program (12 * i) 8 4 (omega arith) (eight program (12 * i) (both .0)) (both .1)

@@ -1,4 +1,4 @@
--- Each of the two eights as `are_words` promises.
+-- Each of the two eights as `eight_words` promises.
 use borrow.Author.Needs.{needs}
 use Rattle.parts.proofs.walk.twelve_words.Statement.{statement}
 use Rattle.parts.proofs.walk.twelve_words.Tie as tie
