@@ -1,6 +1,7 @@
 // The pushes of a class take what waits in the slots.
 use crate::Sent;
 use crate::hash::class_of;
+use crate::hash::low_of;
 use crate::hash::slot_of;
 use crate::slot::waiting_from;
 use crate::times::push_times;
@@ -8,6 +9,7 @@ use crate::tuple::pushed_tuple;
 use form::instruction_at;
 use rows::exec_row;
 ghost use mathlib.Core.Path.{_≡_};
+ghost use mathlib.Core.Logic.{_⊎_};
 ghost use mathlib.Core.Bool.{true};
 ghost use mathlib.Core.List.{[]};
 ghost use lib.ListN.{length};
@@ -31,16 +33,18 @@ fn take_row(
     program: &[u8],
     exec: &[u8],
     ext: &[u8],
-    slots: &mut [u32; 10007],
+    lo: &mut [u16; 17203],
+    hi: &mut [u8; 17203],
+    span: u32,
     rounds: u64,
     class: u64,
     r: usize,
 ) -> bool
-    requires { ⌜ 0 < rounds ⌝ }
+    requires { ⌜ ((span ≡ 131072) ⊎ (span ≡ 2097152)) × (0 < rounds) ⌝ }
     requires { ⌜ r < length (now exec) / 32 ⌝ }
     ensures { λ b. ⌜ (b ≡ true
-        → Taken (now (program .entry)) (now (exec .entry)) (now (ext .entry)) rounds class (now (slots .entry)) r
-        → Taken (now (program .entry)) (now (exec .entry)) (now (ext .entry)) rounds class (now (slots .exit)) (r + 1)) ⌝ }
+        → Taken (now (program .entry)) (now (exec .entry)) (now (ext .entry)) span rounds class (now (lo .entry)) (now (hi .entry)) r
+        → Taken (now (program .entry)) (now (exec .entry)) (now (ext .entry)) span rounds class (now (lo .exit)) (now (hi .exit)) (r + 1)) ⌝ }
 {
     let times = push_times(program, exec, r);
     if times == 0 {
@@ -53,9 +57,10 @@ fn take_row(
     if class_of(t, rounds) != class {
         return true;
     }
-    let s = waiting_from(ext, slots, slot_of(t), t);
-    if s < 10007 {
-        slots[s] = 4294967295;
+    let s = waiting_from(ext, lo, hi, slot_of(t), t, low_of(t, span), span);
+    if s < 17203 {
+        lo[s] = 65535;
+        hi[s] = 255;
         return true;
     }
     false
@@ -65,19 +70,21 @@ pub fn take_rows(
     program: &[u8],
     exec: &[u8],
     ext: &[u8],
-    slots: &mut [u32; 10007],
+    lo: &mut [u16; 17203],
+    hi: &mut [u8; 17203],
+    span: u32,
     rounds: u64,
     class: u64,
 ) -> bool
-    requires { ⌜ 0 < rounds ⌝ }
+    requires { ⌜ ((span ≡ 131072) ⊎ (span ≡ 2097152)) × (0 < rounds) ⌝ }
     ensures { λ b. ⌜ (b ≡ true
-        → Taken (now (program .entry)) (now (exec .entry)) (now (ext .entry)) rounds class (now (slots .entry)) 0
-        → Taken (now (program .entry)) (now (exec .entry)) (now (ext .entry)) rounds class (now (slots .exit)) (length (now (exec .entry)) / 32)) ⌝ }
+        → Taken (now (program .entry)) (now (exec .entry)) (now (ext .entry)) span rounds class (now (lo .entry)) (now (hi .entry)) 0
+        → Taken (now (program .entry)) (now (exec .entry)) (now (ext .entry)) span rounds class (now (lo .exit)) (now (hi .exit)) (length (now (exec .entry)) / 32)) ⌝ }
 {
     let h = exec.len() / 32;
     let mut r = 0;
     while r < h {
-        if !take_row(program, exec, ext, slots, rounds, class, r) {
+        if !take_row(program, exec, ext, lo, hi, span, rounds, class, r) {
             return false;
         }
         r += 1;

@@ -2,9 +2,8 @@
 use mathlib.Core.Bool.{false≢true, true}
 use mathlib.Core.Path.{sym, ap, _∙_, subst, _≡_}
 use native.Mathlib.Omega.{arith}
-use Rattle.paired.specs.Slots.{classOf, waiting}
+use Rattle.paired.specs.Slots.{classOf, slotAt, waiting}
 use Rattle.paired.proofs.Held.{pushes-nothing, pushes-other, pushes-once}
-use lib.ListN.{getD}
 use borrow.Author.Needs.{needs}
 use Rattle.paired.proofs.take.take_row.Statement.{statement}
 use Rattle.paired.proofs.take.take_row.Tie as tie
@@ -23,15 +22,15 @@ returns-3 c =
 
 returns-4 : tie.Need-returns-4
 returns-4 c =
-    let start = c .before .before .before .before .before .before .before .before .before .before .before .before .before in
-    let push-times = c .before .before .before .before .before .before .before .before .before .push-times in
-    let if2 = c .before .before .before .before .before .before .before .if2 in
-    let row-tuple = c .before .before .before .before .before .before .row-tuple in
+    let start = c .before .before .before .before .before .before .before .before .before .before .before .before .before .before .before in
+    let push-times = c .before .before .before .before .before .before .before .before .before .before .before .push-times in
+    let if2 = c .before .before .before .before .before .before .before .before .before .if2 in
+    let row-tuple = c .before .before .before .before .before .before .before .before .row-tuple in
     let waiting-from = c .before .waiting-from in
+    let here = slotAt (start .args .lo .now) (start .args .hi .now) (waiting-from .result) in
     λ _ taken.
     pushes-once taken (waiting-from .result) (sym (if2 .left) ∙ push-times .ensures (omega arith)) (c .if4 .taken)
-    (subst (λ σ. waiting (start .args .ext .now) σ (getD (start .args .slots .now) (waiting-from .result) 0) ≡ true) (row-tuple .ensures)
-    (waiting-from .ensures (c .if4 .taken)))
+    (subst (λ σ. waiting (start .args .ext .now) (start .args .span) σ here ≡ true) (row-tuple .ensures) (waiting-from .ensures (c .if4 .taken)))
 
 returns-5 : tie.Need-returns-5
 returns-5 c = λ e. absurd (false≢true e)
@@ -48,6 +47,8 @@ take-row-spec =
     returns-3
     (λ c κs. search needs)
     (λ c κs. search needs)
+    (λ c κs. search needs)
+    (λ c. search needs)
     (λ c. search needs)
     (λ c. search needs)
     returns-4
