@@ -1,7 +1,7 @@
 -- Rows that wait in slots: what putting one, and taking one, does to the count of each tuple of the class.
 -- Assumes nothing.
 use mathlib.Core.Path.{_≡_, refl, sym, ap, _∙_}
-use mathlib.Core.Bool.{Bool, true, false, _&&_, not}
+use mathlib.Core.Bool.{Bool, true, false, _&&_}
 use mathlib.Core.List.{List, [], _∷_}
 use Prim.Native.Nat.{ℕ, _+_, _-_, _*_, _/_, _%_, _<_}
 use native.Mathlib.Nat.{mul-add-mod-self-left, mod-eq-of-lt}
@@ -50,7 +50,8 @@ module _ (lo hi : List ℕ) (size : Sized lo hi) (q a b : ℕ) (inside : q < 172
   size-set : Sized (set lo q a) (set hi q b)
   size-set = record { low = simp length-set (size .low); high = simp length-set (size .high) }
 
-  held-set : (ext : List ℕ) (span : ℕ) (σ : Tuple) (n : ℕ) → q < n → heldTo ext span (set lo q a) (set hi q b) σ n + either (waiting ext span σ (slotAt lo hi q)) 1 0
+  held-set : (ext : List ℕ) (span : ℕ) (σ : Tuple) (n : ℕ) → q < n
+      → heldTo ext span (set lo q a) (set hi q b) σ n + either (waiting ext span σ (slotAt lo hi q)) 1 0
       ≡ heldTo ext span lo hi σ n + either (waiting ext span σ (a + 65536 * b)) 1 0
   unfolding heldTo
   held-set ext span σ n h =
@@ -98,8 +99,8 @@ module _ {ext : List ℕ} {span rounds class : ℕ} {lo hi : List ℕ} {k : ℕ}
             omega (arith, one-more (pullsOf σ) k, put .waits σ mine, other-class rounds class σ (pulled row) (pulls row) mine differs);
       }
 
-  pub pulls-once : {low : ℕ} (q a b : ℕ) → 1 ≡ pulls (extAt ext (120 * k)) → Tagged span low → k + 1 < span → a + 65536 * b ≡ low + k + 1 → q < 17203
-      → slotAt lo hi q ≡ 0 → Put ext span rounds class (set lo q a) (set hi q b) (k + 1)
+  pub pulls-once : {low : ℕ} (q a b : ℕ) → 1 ≡ pulls (extAt ext (120 * k)) → Tagged span low → k + 1 < span → a + 65536 * b ≡ low + k + 1
+      → q < 17203 → slotAt lo hi q ≡ 0 → Put ext span rounds class (set lo q a) (set hi q b) (k + 1)
   pulls-once q a b once tagged few number inside empty =
       record {
         size = size-set lo hi (put .size) q a b inside;

@@ -25,9 +25,12 @@ hashOf σ = 668265263 * σ .aux + 1013904223 * σ .left + 374761393 * σ .right 
 unfoldable pub classOf : ℕ → Tuple → ℕ
 classOf rounds σ = hashOf σ / 17203 % rounds
 
--- how far apart tags are: no row's number plus one is as large
-pub record Spans (ext : List ℕ) (span : ℕ) : Type 0 where
-  pub kind : (span ≡ 131072) ⊎ (span ≡ 2097152)
+-- how far apart tags are: there is room for the number of each row, plus one
+abbrev pub Span : ℕ → Type 0
+Span span = (span ≡ 131072) ⊎ (span ≡ 2097152)
+
+pub record Room (ext : List ℕ) (span : ℕ) : Type 0 where
+  pub kind : Span span
   pub rows : length ext / 120 < span
 
 -- where the numbers of a tag begin: they are no slot's that was taken

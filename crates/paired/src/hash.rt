@@ -1,11 +1,10 @@
-// Where a tuple goes: its class is its round's, its slot the first that is tried, its tag spares a probe the rows of most others. All that is
-// proved of them is that the class is the tuple's alone.
+// Where a tuple goes: its class is its round's, its slot the first that is tried, its tag spares it the rows of
+// most others. All that is proved of them is that the class is the tuple's alone.
 use crate::Sent;
 use word::wide;
 ghost use mathlib.Core.Path.{_≡_};
-ghost use mathlib.Core.Logic.{_⊎_};
 ghost use Prim.Native.Nat.{_<_};
-ghost use Rattle.paired.specs.Slots.{tupleOf, hashOf, classOf, Tagged};
+ghost use Rattle.paired.specs.Slots.{tupleOf, hashOf, classOf, Span, Tagged};
 
 // Odd numbers below 2^30, so that the sum fits 64 bits.
 fn hash(t: Sent) -> u64
@@ -32,7 +31,7 @@ pub fn slot_of(t: Sent) -> usize
 
 // Where the numbers of a tuple's tag begin. A tag is below 127 or 7, so that none of them is the number of a slot that was taken.
 pub fn low_of(t: Sent, span: u32) -> u32
-    requires { ⌜ (span ≡ 131072) ⊎ (span ≡ 2097152) ⌝ }
+    requires { ⌜ Span span ⌝ }
     ensures { λ r. ⌜ Tagged span r ⌝ }
 {
     let bits = hash(t) / 16777216;

@@ -22,7 +22,7 @@ ghost use Prim.Native.Nat.{_/_, _<_};
 ghost use lib.ListN.{length};
 ghost use Rattle.rules.specs.Bus.{Tuple, pushedTo, pulledTo};
 ghost use Rattle.rules.specs.Sizes.{given, tables};
-ghost use Rattle.paired.specs.Slots.{classOf, Spans};
+ghost use Rattle.paired.specs.Slots.{classOf, Room};
 
 // A tuple that a row pushes or pulls on the bus.
 pub struct Sent {
@@ -35,7 +35,7 @@ pub struct Sent {
 // Whether the pushes of a class of tuples take all its pulls. A slot has 24 bits, so that the slots of a round stay near the processor: 0 where
 // it is empty, a tag and k + 1 where extension row k waits, and 2^24 - 1 where a push took it.
 fn round(program: &[u8], exec: &[u8], ext: &[u8], span: u32, rounds: u64, class: u64) -> bool
-    requires { ⌜ Spans (now ext) span × (0 < rounds) ⌝ }
+    requires { ⌜ Room (now ext) span × (0 < rounds) ⌝ }
     ensures { λ r. ⌜ (r ≡ true → (σ : Tuple) → classOf rounds σ ≡ class
         → pushedTo (given (now (program .entry)) []) (tables (now (exec .entry)) (now (ext .entry))) σ (length (now (exec .entry)) / 32)
         ≡ pulledTo (tables (now (exec .entry)) (now (ext .entry))) σ (length (now (ext .entry)) / 120)) ⌝ }

@@ -10,7 +10,7 @@ ghost use mathlib.Core.Path.{_≡_};
 ghost use mathlib.Core.Bool.{true};
 ghost use lib.ListN.{length};
 ghost use Prim.Native.Nat.{_+_, _/_, _<_};
-ghost use Rattle.paired.specs.Slots.{Spans, Put};
+ghost use Rattle.paired.specs.Slots.{Room, Put};
 
 // How many extension rows start a group: no fewer than pull.
 pub fn starts(ext: &[u8]) -> u64 {
@@ -36,7 +36,7 @@ fn put_row(
     class: u64,
     k: usize,
 ) -> bool
-    requires { ⌜ Spans (now ext) span × (0 < rounds) ⌝ }
+    requires { ⌜ Room (now ext) span × (0 < rounds) ⌝ }
     requires { ⌜ k < length (now ext) / 120 ⌝ }
     ensures { λ r. ⌜ (r ≡ true
         → Put (now (ext .entry)) span rounds class (now (lo .entry)) (now (hi .entry)) k
@@ -71,7 +71,7 @@ pub fn put_rows(
     rounds: u64,
     class: u64,
 ) -> bool
-    requires { ⌜ Spans (now ext) span × (0 < rounds) ⌝ }
+    requires { ⌜ Room (now ext) span × (0 < rounds) ⌝ }
     ensures { λ r. ⌜ (r ≡ true
         → Put (now (ext .entry)) span rounds class (now (lo .entry)) (now (hi .entry)) 0
         → Put (now (ext .entry)) span rounds class (now (lo .exit)) (now (hi .exit)) (length (now (ext .entry)) / 120)) ⌝ }

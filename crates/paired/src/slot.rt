@@ -6,12 +6,12 @@ ghost use mathlib.Core.Path.{_≡_};
 ghost use mathlib.Core.Bool.{true, false};
 ghost use lib.ListN.{length};
 ghost use Prim.Native.Nat.{ℕ, _+_, _*_, _<_, _≤_};
-ghost use Rattle.paired.specs.Slots.{tupleOf, slotAt, live, waiting, Spans, Tagged};
+ghost use Rattle.paired.specs.Slots.{tupleOf, slotAt, live, waiting, Room, Tagged};
 
 // How many numbers a tag has: more than the table has rows. A short table leaves more bits to the tag.
 pub fn span_of(ext: &[u8]) -> u32
     requires { ⌜ length (now ext) ≤ 125829120 ⌝ }
-    ensures { λ r. ⌜ Spans (now (ext .entry)) r ⌝ }
+    ensures { λ r. ⌜ Room (now (ext .entry)) r ⌝ }
 {
     if ext.len() <= 7864320 {
         return 131072;
@@ -19,7 +19,7 @@ pub fn span_of(ext: &[u8]) -> u32
     2097152
 }
 
-// 24 bits.
+// A slot's number, of which two arrays hold the parts: three bytes to a slot, and not four.
 fn number(lo: u16, hi: u8) -> u32
     ensures { λ r. ⌜ r ≡ lo + 65536 * hi ⌝ }
 {
@@ -103,7 +103,7 @@ fn is_live(x: u32) -> bool
     (x != 0) & (x != 16777215)
 }
 
-// Whether no row waits. Every slot is looked at, so that many are at once.
+// Whether no row waits. Every slot is looked at, whatever the ones before it hold, so that the compiler looks at many at once.
 pub fn none_waits(lo: &[u16; 17203], hi: &[u8; 17203]) -> bool
     ensures { λ r. ⌜ (r ≡ true → (s : ℕ) → s < 17203 → live (slotAt (now (lo .entry)) (now (hi .entry)) s) ≡ false) ⌝ }
 {

@@ -9,7 +9,6 @@ use crate::tuple::pushed_tuple;
 use form::instruction_at;
 use rows::exec_row;
 ghost use mathlib.Core.Path.{_≡_};
-ghost use mathlib.Core.Logic.{_⊎_};
 ghost use mathlib.Core.Bool.{true};
 ghost use mathlib.Core.List.{[]};
 ghost use lib.ListN.{length};
@@ -17,7 +16,7 @@ ghost use Prim.Native.Nat.{_+_, _*_, _/_, _<_};
 ghost use Rattle.rows.specs.Rows.{execAt};
 ghost use Rattle.rules.specs.Bus.{pushed, instructionOf};
 ghost use Rattle.rules.specs.Sizes.{given, tables};
-ghost use Rattle.paired.specs.Slots.{tupleOf, Taken};
+ghost use Rattle.paired.specs.Slots.{tupleOf, Span, Taken};
 
 // The tuple of execution row r.
 fn row_tuple(program: &[u8], exec: &[u8], r: usize) -> Sent
@@ -40,7 +39,7 @@ fn take_row(
     class: u64,
     r: usize,
 ) -> bool
-    requires { ⌜ ((span ≡ 131072) ⊎ (span ≡ 2097152)) × (0 < rounds) ⌝ }
+    requires { ⌜ Span span × (0 < rounds) ⌝ }
     requires { ⌜ r < length (now exec) / 32 ⌝ }
     ensures { λ b. ⌜ (b ≡ true
         → Taken (now (program .entry)) (now (exec .entry)) (now (ext .entry)) span rounds class (now (lo .entry)) (now (hi .entry)) r
@@ -76,7 +75,7 @@ pub fn take_rows(
     rounds: u64,
     class: u64,
 ) -> bool
-    requires { ⌜ ((span ≡ 131072) ⊎ (span ≡ 2097152)) × (0 < rounds) ⌝ }
+    requires { ⌜ Span span × (0 < rounds) ⌝ }
     ensures { λ b. ⌜ (b ≡ true
         → Taken (now (program .entry)) (now (exec .entry)) (now (ext .entry)) span rounds class (now (lo .entry)) (now (hi .entry)) 0
         → Taken (now (program .entry)) (now (exec .entry)) (now (ext .entry)) span rounds class (now (lo .exit)) (now (hi .exit)) (length (now (exec .entry)) / 32)) ⌝ }

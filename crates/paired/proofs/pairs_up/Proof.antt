@@ -11,13 +11,13 @@ use borrow.Author.Tests.{not-false}
 use borrow.Author.Count.{below-more}
 use Rattle.rules.specs.Bus.{Tuple, pushedTo, pulledTo}
 use Rattle.rules.specs.Sizes.{given, tables}
-use Rattle.paired.specs.Slots.{hashOf, classOf, Spans}
+use Rattle.paired.specs.Slots.{hashOf, classOf, Room}
 use Rattle.paired.proofs.pairs_up.Statement.{statement}
 use Rattle.paired.proofs.pairs_up.Tie as tie
 
 abbrev Inv-loop : tie.InvT-loop
 Inv-loop program exec ext span rounds class₀ class =
-    Spans ext span × (0 < rounds) × (class ≤ rounds)
+    Room ext span × (0 < rounds) × (class ≤ rounds)
     × ((c : ℕ) → c < class → (σ : Tuple) → classOf rounds σ ≡ c
     → pushedTo (given program []) (tables exec ext) σ (length exec / 32) ≡ pulledTo (tables exec ext) σ (length ext / 120))
 

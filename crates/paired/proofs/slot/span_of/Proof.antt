@@ -2,7 +2,6 @@
 use native.Mathlib.Omega.{arith}
 use mathlib.Core.Path.{refl}
 use mathlib.Core.Logic.{inl, inr}
-use borrow.Author.Needs.{needs}
 use Rattle.paired.proofs.slot.span_of.Statement.{statement}
 use Rattle.paired.proofs.slot.span_of.Tie as tie
 

@@ -2,7 +2,7 @@
 use native.Mathlib.Omega.{arith}
 use Prim.Native.Nat.{_-_, _<_}
 use mathlib.Core.Path.{ap, sym, _∙_}
-use Rattle.paired.specs.Slots.{tupleOf, waiting, Tagged}
+use Rattle.paired.specs.Slots.{waiting, Tagged}
 use borrow.Author.Needs.{needs}
 use Rattle.paired.proofs.slot.waiting_from.Statement.{statement}
 use Rattle.paired.proofs.slot.waiting_from.Tie as tie
