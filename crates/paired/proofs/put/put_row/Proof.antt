@@ -1,9 +1,8 @@
 -- A row that pulls nothing, or a tuple of another class, adds to no tuple of the class.
 use mathlib.Core.Bool.{false≢true}
-use mathlib.Core.Path.{sym, ap, _∙_}
+use mathlib.Core.Path.{sym, _∙_}
 use native.Mathlib.Omega.{arith}
 use Prim.Native.Nat.{_+_, _/_, _%_}
-use Rattle.paired.specs.Slots.{classOf}
 use Rattle.paired.proofs.Held.{pulls-nothing, pulls-other, pulls-once}
 use borrow.Author.Needs.{needs}
 use Rattle.paired.proofs.put.put_row.Statement.{statement}
@@ -16,9 +15,7 @@ returns-2 : tie.Need-returns-2
 returns-2 c = λ e. absurd (false≢true e)
 
 returns-3 : tie.Need-returns-3
-returns-3 c =
-    let start = c .before .before .before .before .before .before .before in
-    λ _ put. pulls-other put (λ e. c .if3 .taken (c .before .class-of .ensures ∙ ap (classOf (start .args .rounds)) (c .before .before .tuple-at .ensures) ∙ e))
+returns-3 c = λ _ put. pulls-other put (λ e. c .if3 .taken (c .before .class-of .ensures ∙ rw (c .before .before .tuple-at .ensures) e))
 
 returns-4 : tie.Need-returns-4
 returns-4 c =
