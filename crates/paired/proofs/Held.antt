@@ -1,42 +1,64 @@
 -- Rows that wait in slots: what putting one, and taking one, does to the count of each tuple of the class.
 -- Assumes nothing.
 use mathlib.Core.Path.{_≡_, refl, sym, ap, _∙_}
-use mathlib.Core.Bool.{Bool, true, false, _&&_, not}
+use mathlib.Core.Bool.{Bool, true, false, _&&_}
 use mathlib.Core.List.{List, [], _∷_}
-use Prim.Native.Nat.{ℕ, _+_, _-_, _*_, _/_, _<_}
+use Prim.Native.Nat.{ℕ, _+_, _-_, _*_, _/_, _%_, _<_}
+use native.Mathlib.Nat.{mul-add-mod-self-left, mod-eq-of-lt}
 use native.Mathlib.Omega.{arith}
 use lib.ListN.{length, getD, set, length-set}
-use lib.Dec.{eqb}
-use borrow.Author.Tests.{eqb-false, ne-eqb, not-true}
+use lib.Seq.{getD-set-same, getD-set-other}
+use borrow.Author.Tests.{ne-eqb}
 use Rattle.rows.specs.Rows.{execAt, extAt}
 use Rattle.rules.specs.Given.{either}
-use Rattle.rules.specs.Bus.{Tuple, sameTuple, pushed, pushes, pulled, pulls, pushedTo, pulledTo, instructionOf}
+use Rattle.rules.specs.Bus.{Tuple, sameTuple, total, pushed, pushes, pulled, pulls, pushedTo, pulledTo, instructionOf}
 use Rattle.rules.specs.Sizes.{given, tables}
 use Rattle.form.proofs.Cases.{each}
-use Rattle.paired.specs.Slots.{classOf, live, waiting, heldTo, Put, Taken}
+use Rattle.paired.specs.Slots.{classOf, live, slotAt, waiting, heldTo, Tagged, Sized, Put, Taken}
 use Rattle.paired.proofs.Tuples.{same-tuple}
 use Rattle.paired.proofs.Totals.{one-more, counts-none, total-zero, total-set}
 
 -- no row waits where no slot is live
-dead : (ext : List ℕ) (σ : Tuple) (x : ℕ) → live x ≡ false → either (waiting ext σ x) 1 0 ≡ 0
+dead : (ext : List ℕ) (span : ℕ) (σ : Tuple) (x : ℕ) → live x ≡ false → either (waiting ext span σ x) 1 0 ≡ 0
 unfolding waiting
-dead ext σ x e = rw e
+dead ext span σ x e = rw e
 
-pub none-held : (ext slots : List ℕ) (σ : Tuple) (n : ℕ) → ((s : ℕ) → s < n → live (getD slots s 0) ≡ false) → heldTo ext slots σ n ≡ 0
+pub none-held : (ext : List ℕ) (span : ℕ) (lo hi : List ℕ) (σ : Tuple) (n : ℕ) → ((s : ℕ) → s < n → live (slotAt lo hi s) ≡ false)
+    → heldTo ext span lo hi σ n ≡ 0
 unfolding heldTo
-none-held ext slots σ n none = total-zero (λ s. either (waiting ext σ (getD slots s 0)) 1 0) n (λ s h. dead ext σ (getD slots s 0) (none s h))
+none-held ext span lo hi σ n none =
+    total-zero (λ s. either (waiting ext span σ (slotAt lo hi s)) 1 0) n (λ s h. dead ext span σ (slotAt lo hi s) (none s h))
 
--- a slot in which a row waits is not 0
-pub live-some : (x : ℕ) → live x ≡ true → 0 < x
-live-some x e =
-    let differs = eqb-false x 0 (not-true (eqb x 0) (each (not (eqb x 0)) (not (eqb x 4294967295) ∷ []) e .0)) in
-    omega arith
+-- a number of a tag is that of a row, which waits
+pub waits-as : (ext : List ℕ) {span low : ℕ} (σ : Tuple) (k : ℕ) → Tagged span low → k + 1 < span
+    → waiting ext span σ (low + k + 1) ≡ sameTuple (pulled (extAt ext (120 * k))) σ
+unfolding waiting
+waits-as ext {span} {low} σ k tagged few =
+    let above : low + k + 1 ≡ span * (low / span) + (k + 1) = omega (arith, tagged .whole) in
+    let rest : (low + k + 1) % span ≡ k + 1 = ap (λ x. x % span) above ∙ mul-add-mod-self-left span (low / span) (k + 1) ∙ mod-eq-of-lt few in
+    let row : (low + k + 1) % span - 1 ≡ k = omega arith in
+    rw (ne-eqb (low + k + 1) 0 (λ e. omega arith), ne-eqb (low + k + 1) 16777215 (λ e. omega (arith, tagged .fits)), row)
 
 -- a slot is written
-held-set : (ext slots : List ℕ) (σ : Tuple) (n q x : ℕ) → q < length slots → q < n
-    → heldTo ext (set slots q x) σ n + either (waiting ext σ (getD slots q 0)) 1 0 ≡ heldTo ext slots σ n + either (waiting ext σ x) 1 0
-unfolding heldTo
-held-set ext slots σ n q x inside h = total-set (λ y. either (waiting ext σ y) 1 0) slots q x inside n h
+module _ (lo hi : List ℕ) (size : Sized lo hi) (q a b : ℕ) (inside : q < 17203) where
+  stored : slotAt (set lo q a) (set hi q b) q ≡ a + 65536 * b
+  stored = rw (getD-set-same lo q a 0 (omega (arith, size .low)), getD-set-same hi q b 0 (omega (arith, size .high)))
+
+  kept : (s : ℕ) → (s ≡ q → ⊥) → slotAt (set lo q a) (set hi q b) s ≡ slotAt lo hi s
+  kept s differs = rw (getD-set-other lo q s a 0 differs, getD-set-other hi q s b 0 differs)
+
+  size-set : Sized (set lo q a) (set hi q b)
+  size-set = record { low = simp length-set (size .low); high = simp length-set (size .high) }
+
+  held-set : (ext : List ℕ) (span : ℕ) (σ : Tuple) (n : ℕ) → q < n
+      → heldTo ext span (set lo q a) (set hi q b) σ n + either (waiting ext span σ (slotAt lo hi q)) 1 0
+      ≡ heldTo ext span lo hi σ n + either (waiting ext span σ (a + 65536 * b)) 1 0
+  unfolding heldTo
+  held-set ext span σ n h =
+      let held : ℕ → ℕ = λ x. either (waiting ext span σ x) 1 0 in
+      let were : ℕ → ℕ = λ s. held (slotAt lo hi s) in
+      total-set (λ s. held (slotAt (set lo q a) (set hi q b) s)) were q (λ s differs. ap held (kept s differs)) n h
+      ∙ ap (λ x. total were n + held x) stored
 
 -- a row counts nothing of a tuple of another class
 other-class : (rounds class : ℕ) (σ τ : Tuple) (n : ℕ) → classOf rounds σ ≡ class → (classOf rounds τ ≡ class → ⊥) → either (sameTuple τ σ) n 0 ≡ 0
@@ -47,17 +69,20 @@ other-class rounds class σ τ n mine differs = go (sameTuple τ σ) refl
     go false e = refl
 
 -- no slot is used yet, and no row is put
-pub none-put : (ext : List ℕ) (rounds class : ℕ) (slots : List ℕ) → length slots ≡ 10007 → ((s : ℕ) → s < 10007 → getD slots s 0 ≡ 0)
-    → Put ext rounds class slots 0
-none-put ext rounds class slots size empty =
-    record { size = size; waits = λ σ mine. none-held ext slots σ 10007 (λ s h. ap live (empty s h)) }
+pub none-put : (ext : List ℕ) (span rounds class : ℕ) (zeros : List ℕ) → length zeros ≡ 17203 → ((s : ℕ) → s < 17203 → getD zeros s 0 ≡ 0)
+    → Put ext span rounds class zeros zeros 0
+none-put ext span rounds class zeros size empty =
+    record {
+      size = record { low = size; high = size };
+      waits = λ σ mine. none-held ext span zeros zeros σ 17203 (λ s h. ap (λ x. live (x + 65536 * x)) (empty s h));
+    }
 
 -- extension row k
-module _ {ext : List ℕ} {rounds class : ℕ} {slots : List ℕ} {k : ℕ} (put : Put ext rounds class slots k) where
+module _ {ext : List ℕ} {span rounds class : ℕ} {lo hi : List ℕ} {k : ℕ} (put : Put ext span rounds class lo hi k) where
   abbrev pullsOf : Tuple → ℕ → ℕ
   pullsOf σ j = either (sameTuple (pulled (extAt ext (120 * j))) σ) (pulls (extAt ext (120 * j))) 0
 
-  pub pulls-nothing : 0 ≡ pulls (extAt ext (120 * k)) → Put ext rounds class slots (k + 1)
+  pub pulls-nothing : 0 ≡ pulls (extAt ext (120 * k)) → Put ext span rounds class lo hi (k + 1)
   pulls-nothing none =
       let row = extAt ext (120 * k) in
       record {
@@ -65,7 +90,7 @@ module _ {ext : List ℕ} {rounds class : ℕ} {slots : List ℕ} {k : ℕ} (put
         waits = λ σ mine. omega (arith, one-more (pullsOf σ) k, put .waits σ mine, counts-none (sameTuple (pulled row) σ) (pulls row) (sym none));
       }
 
-  pub pulls-other : (classOf rounds (pulled (extAt ext (120 * k))) ≡ class → ⊥) → Put ext rounds class slots (k + 1)
+  pub pulls-other : (classOf rounds (pulled (extAt ext (120 * k))) ≡ class → ⊥) → Put ext span rounds class lo hi (k + 1)
   pulls-other differs =
       let row = extAt ext (120 * k) in
       record {
@@ -74,33 +99,27 @@ module _ {ext : List ℕ} {rounds class : ℕ} {slots : List ℕ} {k : ℕ} (put
             omega (arith, one-more (pullsOf σ) k, put .waits σ mine, other-class rounds class σ (pulled row) (pulls row) mine differs);
       }
 
-  -- a row that waits counts as its tuple
-  waits-as : (σ : Tuple) → k < 4294967294 → waiting ext σ (k + 1) ≡ sameTuple (pulled (extAt ext (120 * k))) σ
-  unfolding waiting
-  waits-as σ few =
-      let row : k + 1 - 1 ≡ k = omega arith in
-      rw (ne-eqb (k + 1) 0 (λ e. omega arith), ne-eqb (k + 1) 4294967295 (λ e. omega arith), row)
-
-  pub pulls-once : (q : ℕ) → 1 ≡ pulls (extAt ext (120 * k)) → k < 4294967294 → q < 10007 → getD slots q 0 ≡ 0
-      → Put ext rounds class (set slots q (k + 1)) (k + 1)
-  pulls-once q once few low empty =
+  pub pulls-once : {low : ℕ} (q a b : ℕ) → 1 ≡ pulls (extAt ext (120 * k)) → Tagged span low → k + 1 < span → a + 65536 * b ≡ low + k + 1
+      → q < 17203 → slotAt lo hi q ≡ 0 → Put ext span rounds class (set lo q a) (set hi q b) (k + 1)
+  pulls-once q a b once tagged few number inside empty =
       record {
-        size = simp length-set (put .size);
+        size = size-set lo hi (put .size) q a b inside;
         waits = λ σ mine.
-            let was = ap (λ x. either (waiting ext σ x) 1 0) empty ∙ dead ext σ 0 refl in
-            let is : either (waiting ext σ (k + 1)) 1 0 ≡ pullsOf σ k = λ i. either (waits-as σ few i) (once i) 0 in
-            let written = held-set ext slots σ 10007 q (k + 1) (omega (arith, put .size)) low in
+            let held : ℕ → ℕ = λ x. either (waiting ext span σ x) 1 0 in
+            let was = ap held empty ∙ dead ext span σ 0 refl in
+            let is : held (a + 65536 * b) ≡ pullsOf σ k = ap held number ∙ (λ i. either (waits-as ext σ k tagged few i) (once i) 0) in
+            let written = held-set lo hi (put .size) q a b inside ext span σ 17203 inside in
             omega (arith, one-more (pullsOf σ) k, put .waits σ mine);
       }
 
 -- every row is put, and none is taken yet
-pub none-taken : (program exec : List ℕ) {ext : List ℕ} {rounds class : ℕ} {slots : List ℕ} {n : ℕ} → n ≡ length ext / 120
-    → Put ext rounds class slots n → Taken program exec ext rounds class slots 0
+pub none-taken : (program exec : List ℕ) {ext : List ℕ} {span rounds class : ℕ} {lo hi : List ℕ} {n : ℕ} → n ≡ length ext / 120
+    → Put ext span rounds class lo hi n → Taken program exec ext span rounds class lo hi 0
 none-taken program exec {ext} all put =
     record { size = put .size; waits = λ σ mine. omega (arith, put .waits σ mine, ap (pulledTo (tables [] ext) σ) all) }
 
 -- execution row r
-module _ {program exec ext : List ℕ} {rounds class : ℕ} {slots : List ℕ} {r : ℕ} (taken : Taken program exec ext rounds class slots r) where
+module _ {program exec ext : List ℕ} {span rounds class : ℕ} {lo hi : List ℕ} {r : ℕ} (taken : Taken program exec ext span rounds class lo hi r) where
   abbrev pushesOf : Tuple → ℕ → ℕ
   pushesOf σ j =
       let i = instructionOf (given program []) (tables exec []) j in
@@ -109,7 +128,7 @@ module _ {program exec ext : List ℕ} {rounds class : ℕ} {slots : List ℕ} {
   abbrev sent : Tuple
   sent = pushed (instructionOf (given program []) (tables exec []) r) (execAt exec (32 * r))
 
-  pub pushes-nothing : 0 ≡ pushes (instructionOf (given program []) (tables exec []) r) → Taken program exec ext rounds class slots (r + 1)
+  pub pushes-nothing : 0 ≡ pushes (instructionOf (given program []) (tables exec []) r) → Taken program exec ext span rounds class lo hi (r + 1)
   pushes-nothing none =
       let i = instructionOf (given program []) (tables exec []) r in
       record {
@@ -117,7 +136,7 @@ module _ {program exec ext : List ℕ} {rounds class : ℕ} {slots : List ℕ} {
         waits = λ σ mine. omega (arith, one-more (pushesOf σ) r, taken .waits σ mine, counts-none (sameTuple sent σ) (pushes i) (sym none));
       }
 
-  pub pushes-other : (classOf rounds sent ≡ class → ⊥) → Taken program exec ext rounds class slots (r + 1)
+  pub pushes-other : (classOf rounds sent ≡ class → ⊥) → Taken program exec ext span rounds class lo hi (r + 1)
   pushes-other differs =
       let i = instructionOf (given program []) (tables exec []) r in
       record {
@@ -126,26 +145,26 @@ module _ {program exec ext : List ℕ} {rounds class : ℕ} {slots : List ℕ} {
       }
 
   -- a row that waits for a tuple waits as that tuple
-  waits-same : (τ σ : Tuple) (x : ℕ) → waiting ext τ x ≡ true → waiting ext σ x ≡ sameTuple τ σ
+  waits-same : (τ σ : Tuple) (x : ℕ) → waiting ext span τ x ≡ true → waiting ext span σ x ≡ sameTuple τ σ
   unfolding waiting
   waits-same τ σ x e =
-      let both = each (live x) (sameTuple (pulled (extAt ext (120 * (x - 1)))) τ ∷ []) e in
-      ap (λ b. b && sameTuple (pulled (extAt ext (120 * (x - 1)))) σ) (both .0)
-      ∙ ap (λ ρ. sameTuple ρ σ) (same-tuple (pulled (extAt ext (120 * (x - 1)))) τ (both .1))
+      let row = pulled (extAt ext (120 * (x % span - 1))) in
+      let both = each (live x) (sameTuple row τ ∷ []) e in
+      ap (λ b. b && sameTuple row σ) (both .0) ∙ ap (λ ρ. sameTuple ρ σ) (same-tuple row τ (both .1))
 
-  pub pushes-once : (q : ℕ) → 1 ≡ pushes (instructionOf (given program []) (tables exec []) r) → q < 10007
-      → waiting ext sent (getD slots q 0) ≡ true → Taken program exec ext rounds class (set slots q 4294967295) (r + 1)
-  pushes-once q once low waits =
+  pub pushes-once : (q : ℕ) → 1 ≡ pushes (instructionOf (given program []) (tables exec []) r) → q < 17203
+      → waiting ext span sent (slotAt lo hi q) ≡ true → Taken program exec ext span rounds class (set lo q 65535) (set hi q 255) (r + 1)
+  pushes-once q once inside waits =
       record {
-        size = simp length-set (taken .size);
+        size = size-set lo hi (taken .size) q 65535 255 inside;
         waits = λ σ mine.
-            let gone = dead ext σ 4294967295 refl in
-            let was : either (waiting ext σ (getD slots q 0)) 1 0 ≡ pushesOf σ r = λ i. either (waits-same sent σ (getD slots q 0) waits i) (once i) 0 in
-            let written = held-set ext slots σ 10007 q 4294967295 (omega (arith, taken .size)) low in
+            let gone = dead ext span σ 16777215 refl in
+            let was : either (waiting ext span σ (slotAt lo hi q)) 1 0 ≡ pushesOf σ r = λ i. either (waits-same sent σ (slotAt lo hi q) waits i) (once i) 0 in
+            let written = held-set lo hi (taken .size) q 65535 255 inside ext span σ 17203 inside in
             omega (arith, one-more (pushesOf σ) r, taken .waits σ mine);
       }
 
   -- where no row waits any more, as much is pushed as is pulled
-  pub all-taken : ((s : ℕ) → s < 10007 → live (getD slots s 0) ≡ false) → (σ : Tuple) → classOf rounds σ ≡ class
+  pub all-taken : ((s : ℕ) → s < 17203 → live (slotAt lo hi s) ≡ false) → (σ : Tuple) → classOf rounds σ ≡ class
       → pushedTo (given program []) (tables exec ext) σ r ≡ pulledTo (tables exec ext) σ (length ext / 120)
-  all-taken none σ mine = omega (arith, taken .waits σ mine, none-held ext slots σ 10007 none)
+  all-taken none σ mine = omega (arith, taken .waits σ mine, none-held ext span lo hi σ 17203 none)

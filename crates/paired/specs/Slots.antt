@@ -1,8 +1,10 @@
--- Slots in which the pulls of one class of tuples wait: 0 is empty, k + 1 is extension row k, and 2^32 - 1 was taken by a push.
+-- Slots in which the pulls of one class of tuples wait. A slot's number is 0 where it is empty, 2^24 - 1 where a push took it, and else
+-- k + 1 for extension row k, plus a multiple of `span` that is the tag of the row's tuple.
 use mathlib.Core.Path.{_≡_}
 use mathlib.Core.Bool.{Bool, _&&_, not}
 use mathlib.Core.List.{List, []}
-use Prim.Native.Nat.{ℕ, _+_, _-_, _*_, _/_, _%_}
+use mathlib.Core.Logic.{_⊎_}
+use Prim.Native.Nat.{ℕ, _+_, _-_, _*_, _/_, _%_, _<_}
 use lib.ListN.{length, getD}
 use lib.Dec.{eqb}
 use Rattle.rows.specs.Rows.{extAt}
@@ -21,26 +23,48 @@ hashOf σ = 668265263 * σ .aux + 1013904223 * σ .left + 374761393 * σ .right 
 
 -- the round in which a tuple is settled
 unfoldable pub classOf : ℕ → Tuple → ℕ
-classOf rounds σ = hashOf σ / 10007 % rounds
+classOf rounds σ = hashOf σ / 17203 % rounds
+
+-- how far apart tags are: there is room for the number of each row, plus one
+abbrev pub Span : ℕ → Type 0
+Span span = (span ≡ 131072) ⊎ (span ≡ 2097152)
+
+pub record Room (ext : List ℕ) (span : ℕ) : Type 0 where
+  pub kind : Span span
+  pub rows : length ext / 120 < span
+
+-- where the numbers of a tag begin: they are no slot's that was taken
+pub record Tagged (span low : ℕ) : Type 0 where
+  pub whole : low ≡ span * (low / span)
+  pub fits : low + span < 16777216
+
+-- a slot's number: its low 16 bits, and those above
+abbrev pub slotAt : List ℕ → List ℕ → ℕ → ℕ
+slotAt lo hi s = getD lo s 0 + 65536 * getD hi s 0
 
 -- a slot in which a row waits, and one in which a row with this tuple does
 abbrev pub live : ℕ → Bool
-live x = not (eqb x 0) && not (eqb x 4294967295)
+live x = not (eqb x 0) && not (eqb x 16777215)
 
-unfoldable pub waiting : List ℕ → Tuple → ℕ → Bool
-waiting ext σ x = live x && sameTuple (pulled (extAt ext (120 * (x - 1)))) σ
+unfoldable pub waiting : List ℕ → ℕ → Tuple → ℕ → Bool
+waiting ext span σ x = live x && sameTuple (pulled (extAt ext (120 * (x % span - 1)))) σ
 
 -- how many of the slots below n have a waiting row with this tuple
-unfoldable pub heldTo : List ℕ → List ℕ → Tuple → ℕ → ℕ
-heldTo ext slots σ n = total (λ s. either (waiting ext σ (getD slots s 0)) 1 0) n
+unfoldable pub heldTo : List ℕ → ℕ → List ℕ → List ℕ → Tuple → ℕ → ℕ
+heldTo ext span lo hi σ n = total (λ s. either (waiting ext span σ (slotAt lo hi s)) 1 0) n
+
+-- both arrays of slots
+pub record Sized (lo hi : List ℕ) : Type 0 where
+  pub low : length lo ≡ 17203
+  pub high : length hi ≡ 17203
 
 -- of each tuple of the class, as many rows wait as the extension rows below k pull
-pub record Put (ext : List ℕ) (rounds class : ℕ) (slots : List ℕ) (k : ℕ) : Type 0 where
-  pub size : length slots ≡ 10007
-  pub waits : (σ : Tuple) → classOf rounds σ ≡ class → heldTo ext slots σ 10007 ≡ pulledTo (tables [] ext) σ k
+pub record Put (ext : List ℕ) (span rounds class : ℕ) (lo hi : List ℕ) (k : ℕ) : Type 0 where
+  pub size : Sized lo hi
+  pub waits : (σ : Tuple) → classOf rounds σ ≡ class → heldTo ext span lo hi σ 17203 ≡ pulledTo (tables [] ext) σ k
 
 -- and then as many as are pulled and the execution rows below r did not take
-pub record Taken (program exec ext : List ℕ) (rounds class : ℕ) (slots : List ℕ) (r : ℕ) : Type 0 where
-  pub size : length slots ≡ 10007
+pub record Taken (program exec ext : List ℕ) (span rounds class : ℕ) (lo hi : List ℕ) (r : ℕ) : Type 0 where
+  pub size : Sized lo hi
   pub waits : (σ : Tuple) → classOf rounds σ ≡ class
-      → heldTo ext slots σ 10007 + pushedTo (given program []) (tables exec ext) σ r ≡ pulledTo (tables exec ext) σ (length ext / 120)
+      → heldTo ext span lo hi σ 17203 + pushedTo (given program []) (tables exec ext) σ r ≡ pulledTo (tables exec ext) σ (length ext / 120)

@@ -1,5 +1,6 @@
 // The pulls of a class are put into slots.
 use crate::hash::class_of;
+use crate::hash::low_of;
 use crate::hash::slot_of;
 use crate::slot::empty_from;
 use crate::times::pull_times;
@@ -9,7 +10,7 @@ ghost use mathlib.Core.Path.{_≡_};
 ghost use mathlib.Core.Bool.{true};
 ghost use lib.ListN.{length};
 ghost use Prim.Native.Nat.{_+_, _/_, _<_};
-ghost use Rattle.paired.specs.Slots.{Put};
+ghost use Rattle.paired.specs.Slots.{Room, Put};
 
 // How many extension rows start a group: no fewer than pull.
 pub fn starts(ext: &[u8]) -> u64 {
@@ -26,12 +27,20 @@ pub fn starts(ext: &[u8]) -> u64 {
 }
 
 // Puts extension row k, if it pulls a tuple of the class. False where it pulls more than once, or no slot is found.
-fn put_row(ext: &[u8], slots: &mut [u32; 10007], rounds: u64, class: u64, k: usize) -> bool
-    requires { ⌜ (length (now ext) < 4294967296) × (0 < rounds) ⌝ }
+fn put_row(
+    ext: &[u8],
+    lo: &mut [u16; 17203],
+    hi: &mut [u8; 17203],
+    span: u32,
+    rounds: u64,
+    class: u64,
+    k: usize,
+) -> bool
+    requires { ⌜ Room (now ext) span × (0 < rounds) ⌝ }
     requires { ⌜ k < length (now ext) / 120 ⌝ }
     ensures { λ r. ⌜ (r ≡ true
-        → Put (now (ext .entry)) rounds class (now (slots .entry)) k
-        → Put (now (ext .entry)) rounds class (now (slots .exit)) (k + 1)) ⌝ }
+        → Put (now (ext .entry)) span rounds class (now (lo .entry)) (now (hi .entry)) k
+        → Put (now (ext .entry)) span rounds class (now (lo .exit)) (now (hi .exit)) (k + 1)) ⌝ }
 {
     let times = pull_times(ext, k);
     if times == 0 {
@@ -44,24 +53,33 @@ fn put_row(ext: &[u8], slots: &mut [u32; 10007], rounds: u64, class: u64, k: usi
     if class_of(t, rounds) != class {
         return true;
     }
-    let s = empty_from(slots, slot_of(t));
-    if s < 10007 {
-        slots[s] = k as u32 + 1;
+    let s = empty_from(lo, hi, slot_of(t));
+    if s < 17203 {
+        let x = low_of(t, span) + k as u32 + 1;
+        lo[s] = (x % 65536) as u16;
+        hi[s] = (x / 65536) as u8;
         return true;
     }
     false
 }
 
-pub fn put_rows(ext: &[u8], slots: &mut [u32; 10007], rounds: u64, class: u64) -> bool
-    requires { ⌜ (length (now ext) < 4294967296) × (0 < rounds) ⌝ }
+pub fn put_rows(
+    ext: &[u8],
+    lo: &mut [u16; 17203],
+    hi: &mut [u8; 17203],
+    span: u32,
+    rounds: u64,
+    class: u64,
+) -> bool
+    requires { ⌜ Room (now ext) span × (0 < rounds) ⌝ }
     ensures { λ r. ⌜ (r ≡ true
-        → Put (now (ext .entry)) rounds class (now (slots .entry)) 0
-        → Put (now (ext .entry)) rounds class (now (slots .exit)) (length (now (ext .entry)) / 120)) ⌝ }
+        → Put (now (ext .entry)) span rounds class (now (lo .entry)) (now (hi .entry)) 0
+        → Put (now (ext .entry)) span rounds class (now (lo .exit)) (now (hi .exit)) (length (now (ext .entry)) / 120)) ⌝ }
 {
     let n = ext.len() / 120;
     let mut k = 0;
     while k < n {
-        if !put_row(ext, slots, rounds, class, k) {
+        if !put_row(ext, lo, hi, span, rounds, class, k) {
             return false;
         }
         k += 1;

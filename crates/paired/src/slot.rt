@@ -4,84 +4,114 @@ use crate::tuple::same;
 use crate::tuple::tuple_at;
 ghost use mathlib.Core.Path.{_≡_};
 ghost use mathlib.Core.Bool.{true, false};
-ghost use lib.ListN.{getD};
-ghost use Prim.Native.Nat.{ℕ, _<_};
-ghost use Rattle.paired.specs.Slots.{tupleOf, live, waiting};
+ghost use lib.ListN.{length};
+ghost use Prim.Native.Nat.{ℕ, _+_, _*_, _<_, _≤_};
+ghost use Rattle.paired.specs.Slots.{tupleOf, slotAt, live, waiting, Room, Tagged};
+
+// How many numbers a tag has: more than the table has rows. A short table leaves more bits to the tag.
+pub fn span_of(ext: &[u8]) -> u32
+    requires { ⌜ length (now ext) ≤ 125829120 ⌝ }
+    ensures { λ r. ⌜ Room (now (ext .entry)) r ⌝ }
+{
+    if ext.len() <= 7864320 {
+        return 131072;
+    }
+    2097152
+}
+
+// A slot's number, of which two arrays hold the parts: three bytes to a slot, and not four.
+fn number(lo: u16, hi: u8) -> u32
+    ensures { λ r. ⌜ r ≡ lo + 65536 * hi ⌝ }
+{
+    lo as u32 + 65536 * (hi as u32)
+}
 
 fn after(s: usize) -> usize
-    requires { ⌜ s < 10007 ⌝ }
-    ensures { λ r. ⌜ r < 10007 ⌝ }
+    requires { ⌜ s < 17203 ⌝ }
+    ensures { λ r. ⌜ r < 17203 ⌝ }
 {
-    if s == 10006 {
+    if s == 17202 {
         return 0;
     }
     s + 1
 }
 
-// An empty slot; 10007 where none is found.
-pub fn empty_from(slots: &[u32; 10007], from: usize) -> usize
-    requires { ⌜ from < 10007 ⌝ }
-    ensures { λ r. ⌜ (r < 10007 → getD (now (slots .entry)) r 0 ≡ 0) ⌝ }
+// An empty slot; 17203 where none is found.
+pub fn empty_from(lo: &[u16; 17203], hi: &[u8; 17203], from: usize) -> usize
+    requires { ⌜ from < 17203 ⌝ }
+    ensures { λ r. ⌜ (r < 17203 → slotAt (now (lo .entry)) (now (hi .entry)) r ≡ 0) ⌝ }
 {
     let mut s = from;
     let mut tried: usize = 0;
     while tried < 2048 {
-        if slots[s] == 0 {
+        if number(lo[s], hi[s]) == 0 {
             return s;
         }
         s = after(s);
         tried += 1;
     }
-    10007
+    17203
+}
+
+// Whether a slot's number is of the tag that begins at low, and its row's tuple is t. A row is read only where the tag agrees.
+fn waits(ext: &[u8], x: u32, t: Sent, low: u32, span: u32) -> bool
+    requires { ⌜ Tagged span low ⌝ }
+    ensures { λ r. ⌜ (r ≡ true → waiting (now (ext .entry)) span (tupleOf t) x ≡ true) ⌝ }
+{
+    if x <= low {
+        return false;
+    }
+    if low + span <= x {
+        return false;
+    }
+    let row = (x - low - 1) as usize;
+    same(tuple_at(ext, 120 * row), t)
+}
+
+// A slot where a row with tuple t waits; 17203 where none is found. None is beyond an empty slot.
+pub fn waiting_from(
+    ext: &[u8],
+    lo: &[u16; 17203],
+    hi: &[u8; 17203],
+    from: usize,
+    t: Sent,
+    low: u32,
+    span: u32,
+) -> usize
+    requires { ⌜ (from < 17203) × Tagged span low ⌝ }
+    ensures { λ r. ⌜ (r < 17203 → waiting (now (ext .entry)) span (tupleOf t) (slotAt (now (lo .entry)) (now (hi .entry)) r) ≡ true) ⌝ }
+{
+    let mut s = from;
+    let mut tried: usize = 0;
+    while tried < 2048 {
+        let x = number(lo[s], hi[s]);
+        if x == 0 {
+            return 17203;
+        }
+        if waits(ext, x, t, low, span) {
+            return s;
+        }
+        s = after(s);
+        tried += 1;
+    }
+    17203
 }
 
 fn is_live(x: u32) -> bool
     ensures { λ r. ⌜ r ≡ live x ⌝ }
 {
-    (x != 0) & (x != 4294967295)
+    (x != 0) & (x != 16777215)
 }
 
-// Whether a slot's row waits, and its tuple is t.
-fn waits(ext: &[u8], x: u32, t: Sent) -> bool
-    ensures { λ r. ⌜ r ≡ waiting (now (ext .entry)) (tupleOf t) x ⌝ }
+// Whether no row waits. Every slot is looked at, whatever the ones before it hold, so that the compiler looks at many at once.
+pub fn none_waits(lo: &[u16; 17203], hi: &[u8; 17203]) -> bool
+    ensures { λ r. ⌜ (r ≡ true → (s : ℕ) → s < 17203 → live (slotAt (now (lo .entry)) (now (hi .entry)) s) ≡ false) ⌝ }
 {
-    if !is_live(x) {
-        return false;
-    }
-    let row = x as usize - 1;
-    same(tuple_at(ext, 120 * row), t)
-}
-
-// A slot where a row with tuple t waits; 10007 where none is found. None is beyond an empty slot.
-pub fn waiting_from(ext: &[u8], slots: &[u32; 10007], from: usize, t: Sent) -> usize
-    requires { ⌜ from < 10007 ⌝ }
-    ensures { λ r. ⌜ (r < 10007 → waiting (now (ext .entry)) (tupleOf t) (getD (now (slots .entry)) r 0) ≡ true) ⌝ }
-{
-    let mut s = from;
-    let mut tried: usize = 0;
-    while tried < 2048 {
-        if slots[s] == 0 {
-            return 10007;
-        }
-        if waits(ext, slots[s], t) {
-            return s;
-        }
-        s = after(s);
-        tried += 1;
-    }
-    10007
-}
-
-// Whether no row waits.
-pub fn none_waits(slots: &[u32; 10007]) -> bool
-    ensures { λ r. ⌜ (r ≡ true → (s : ℕ) → s < 10007 → live (getD (now (slots .entry)) s 0) ≡ false) ⌝ }
-{
+    let mut none = true;
     let mut s = 0;
-    while s < 10007 {
-        if is_live(slots[s]) {
-            return false;
-        }
+    while s < 17203 {
+        none = none & !is_live(number(lo[s], hi[s]));
         s += 1;
     }
-    true
+    none
 }

@@ -11,24 +11,24 @@ use borrow.Author.Tests.{not-false}
 use borrow.Author.Count.{below-more}
 use Rattle.rules.specs.Bus.{Tuple, pushedTo, pulledTo}
 use Rattle.rules.specs.Sizes.{given, tables}
-use Rattle.paired.specs.Slots.{hashOf, classOf}
+use Rattle.paired.specs.Slots.{hashOf, classOf, Room}
 use Rattle.paired.proofs.pairs_up.Statement.{statement}
 use Rattle.paired.proofs.pairs_up.Tie as tie
 
 abbrev Inv-loop : tie.InvT-loop
-Inv-loop program exec ext rounds class₀ class =
-    (length ext < 4294967296) × (0 < rounds) × (class ≤ rounds)
+Inv-loop program exec ext span rounds class₀ class =
+    Room ext span × (0 < rounds) × (class ≤ rounds)
     × ((c : ℕ) → c < class → (σ : Tuple) → classOf rounds σ ≡ c
     → pushedTo (given program []) (tables exec ext) σ (length exec / 32) ≡ pulledTo (tables exec ext) σ (length ext / 120))
 
 abbrev μ-loop : tie.MeasureT-loop
-μ-loop program exec ext rounds class₀ class = rounds - class
+μ-loop program exec ext span rounds class₀ class = rounds - class
 
 returns : tie.Need-returns Inv-loop μ-loop
 returns c = λ e. absurd (false≢true e)
 
 loop-holds : tie.Need-loop-holds Inv-loop μ-loop
-loop-holds c = (omega arith, omega arith, omega arith, λ c h. absurd (omega arith))
+loop-holds c = (c .before .span-of .ensures, omega arith, omega arith, λ c h. absurd (omega arith))
 
 returns-2 : tie.Need-returns-2 Inv-loop μ-loop
 returns-2 c = λ e. absurd (false≢true e)
@@ -42,8 +42,8 @@ returns-3 : tie.Need-returns-3 Inv-loop μ-loop
 unfolding classOf
 returns-3 c =
     let loop = c .before .loop in
-    let rounds = c .before .before .starts .result / 8192 + 1 in
-    λ _ σ. loop .inv .3 (classOf rounds σ) (omega (arith, mod-lt (hashOf σ / 10007) (loop .inv .1))) σ refl
+    let rounds = c .before .before .starts .result / 16385 + 1 in
+    λ _ σ. loop .inv .3 (classOf rounds σ) (omega (arith, mod-lt (hashOf σ / 17203) (loop .inv .1))) σ refl
 
 pub pairs-up-spec : {M : Type 1} → statement M
 pairs-up-spec =
@@ -52,6 +52,7 @@ pairs-up-spec =
     Inv-loop
     μ-loop
     returns
+    (λ c κs. search needs)
     (λ c κs. search needs)
     (λ c. search needs)
     loop-holds

@@ -17,13 +17,14 @@ returns-2 c = λ e. absurd (false≢true e)
 
 returns-3 : tie.Need-returns-3
 returns-3 c =
-    let start = c .before .before .before .before .before .before .before .before .before .before .before in
-    let put-rows = c .before .before .before .before .before .before .put-rows in
-    let take-rows = c .before .before .before .take-rows in
+    let start = c .before .before .before .before .before .before .before .before .before .before .before .before .before .before in
+    let put-rows = c .before .before .before .before .before .before .before .before .put-rows in
+    let take-rows = c .before .before .before .before .take-rows in
     let empty =
-    none-put (start .args .ext .now) (start .args .rounds) (start .args .class) _ (length-replicate {A = ℕ} 10007 0) (λ s h. getD-replicate 10007 s 0 0 h) in
-    let put = put-rows .ensures (not-false _ (c .before .before .before .before .before .if1 .left)) empty in
-    let taken = take-rows .ensures (not-false _ (c .before .before .if2 .left)) (none-taken (start .args .program .now) (start .args .exec .now) refl put) in
+    none-put (start .args .ext .now) (start .args .span) (start .args .rounds) (start .args .class) _ (length-replicate {A = ℕ} 17203 0)
+    (λ s h. getD-replicate 17203 s 0 0 h) in
+    let put = put-rows .ensures (not-false _ (c .before .before .before .before .before .before .before .if1 .left)) empty in
+    let taken = take-rows .ensures (not-false _ (c .before .before .before .if2 .left)) (none-taken (start .args .program .now) (start .args .exec .now) refl put) in
     λ e. all-taken taken (c .none-waits .ensures e)
 
 pub round-spec : {M : Type 1} → statement M

@@ -1,8 +1,8 @@
 -- A row that pulls nothing, or a tuple of another class, adds to no tuple of the class.
 use mathlib.Core.Bool.{false≢true}
-use mathlib.Core.Path.{sym, ap, _∙_}
+use mathlib.Core.Path.{sym, _∙_}
 use native.Mathlib.Omega.{arith}
-use Rattle.paired.specs.Slots.{classOf}
+use Prim.Native.Nat.{_+_, _/_, _%_}
 use Rattle.paired.proofs.Held.{pulls-nothing, pulls-other, pulls-once}
 use borrow.Author.Needs.{needs}
 use Rattle.paired.proofs.put.put_row.Statement.{statement}
@@ -15,19 +15,19 @@ returns-2 : tie.Need-returns-2
 returns-2 c = λ e. absurd (false≢true e)
 
 returns-3 : tie.Need-returns-3
-returns-3 c =
-    let start = c .before .before .before .before .before .before .before in
-    λ _ put. pulls-other put (λ e. c .if3 .taken (c .before .class-of .ensures ∙ ap (classOf (start .args .rounds)) (c .before .before .tuple-at .ensures) ∙ e))
+returns-3 c = λ _ put. pulls-other put (λ e. c .if3 .taken (c .before .class-of .ensures ∙ rw (c .before .before .tuple-at .ensures) e))
 
 returns-4 : tie.Need-returns-4
 returns-4 c =
-    let start = c .before .before .before .before .before .before .before .before .before .before .before in
-    let pull-times = c .before .before .before .before .before .before .before .before .before .pull-times in
-    let if2 = c .before .before .before .before .before .before .before .if2 in
-    let empty-from = c .before .empty-from in
+    let start = c .before .before .before .before .before .before .before .before .before .before .before .before .before in
+    let pull-times = c .before .before .before .before .before .before .before .before .before .before .before .pull-times in
+    let if2 = c .before .before .before .before .before .before .before .before .before .if2 in
+    let empty-from = c .before .before .empty-from in
+    let x = c .low-of .result + start .args .k + 1 in
+    let inside = c .before .if4 .taken in
     λ _ put.
-    pulls-once put (empty-from .result) (sym (if2 .left) ∙ pull-times .ensures (omega arith)) (omega arith) (c .if4 .taken)
-    (empty-from .ensures (c .if4 .taken))
+    pulls-once put (empty-from .result) (x % 65536) (x / 65536) (sym (if2 .left) ∙ pull-times .ensures (omega arith)) (c .low-of .ensures) (omega arith)
+    (omega arith) inside (empty-from .ensures inside)
 
 returns-5 : tie.Need-returns-5
 returns-5 c = λ e. absurd (false≢true e)
@@ -45,6 +45,11 @@ put-row-spec =
     returns-3
     (λ c κs. search needs)
     (λ c κs. search needs)
+    (λ c κs. search needs)
+    (λ c. search needs)
+    (λ c. search needs)
+    (λ c. search needs)
+    (λ c. search needs)
     (λ c. search needs)
     (λ c. search needs)
     (λ c. search needs)

@@ -11,10 +11,11 @@ use Rattle.paired.proofs.put.put_rows.Statement.{statement}
 use Rattle.paired.proofs.put.put_rows.Tie as tie
 
 abbrev Inv-loop : tie.InvT-loop
-Inv-loop ext slots₀ rounds class n k₀ slots k = (n ≡ length ext / 120) × (k ≤ n) × (Put ext rounds class slots₀ 0 → Put ext rounds class slots k)
+Inv-loop ext lo₀ hi₀ span rounds class n k₀ lo hi k =
+    (n ≡ length ext / 120) × (k ≤ n) × (Put ext span rounds class lo₀ hi₀ 0 → Put ext span rounds class lo hi k)
 
 abbrev μ-loop : tie.MeasureT-loop
-μ-loop ext slots₀ rounds class n k₀ slots k = n - k
+μ-loop ext lo₀ hi₀ span rounds class n k₀ lo hi k = n - k
 
 loop-holds : tie.Need-loop-holds Inv-loop μ-loop
 loop-holds c = (refl, omega arith, λ put. put)
@@ -24,7 +25,7 @@ returns c = λ e. absurd (false≢true e)
 
 loop-again : tie.Need-loop-again Inv-loop μ-loop
 loop-again c =
-    (refl, omega arith, λ put. c .before .put-row .ensures (not-false _ (c .if1 .left)) (c .before .before .before .before .loop .inv .2 put))
+    (refl, omega arith, λ put. c .before .put-row .ensures (not-false _ (c .if1 .left)) (c .before .before .before .before .before .loop .inv .2 put))
 
 returns-2 : tie.Need-returns-2 Inv-loop μ-loop
 returns-2 c =

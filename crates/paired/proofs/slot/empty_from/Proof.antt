@@ -1,18 +1,19 @@
 -- The slot that is found was read.
-use borrow.Author.Needs.{needs}
 use native.Mathlib.Omega.{arith}
 use Prim.Native.Nat.{_-_, _<_}
+use mathlib.Core.Path.{sym, _∙_}
+use borrow.Author.Needs.{needs}
 use Rattle.paired.proofs.slot.empty_from.Statement.{statement}
 use Rattle.paired.proofs.slot.empty_from.Tie as tie
 
 abbrev Inv-loop : tie.InvT-loop
-Inv-loop slots from s₀ tried₀ s tried = s < 10007
+Inv-loop lo hi from s₀ tried₀ s tried = s < 17203
 
 abbrev μ-loop : tie.MeasureT-loop
-μ-loop slots from s₀ tried₀ s tried = 2048 - tried
+μ-loop lo hi from s₀ tried₀ s tried = 2048 - tried
 
 returns : tie.Need-returns Inv-loop μ-loop
-returns c = λ _. c .if1 .taken
+returns c = λ _. sym (c .before .number .ensures) ∙ c .if1 .taken
 
 returns-2 : tie.Need-returns-2 Inv-loop μ-loop
 returns-2 c = λ h. absurd (omega arith)
@@ -26,6 +27,8 @@ empty-from-spec =
     (λ c. search needs)
     (λ c. search needs)
     (λ c. search needs)
+    (λ c. search needs)
+    (λ c κs. search needs)
     returns
     (λ c κs. search needs)
     (λ c. search needs)

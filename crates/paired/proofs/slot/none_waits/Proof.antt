@@ -1,32 +1,37 @@
 -- No slot passed is live.
-use borrow.Author.Needs.{needs}
 use native.Mathlib.Omega.{arith}
-use mathlib.Core.Path.{_≡_, sym, _∙_}
+use mathlib.Core.Path.{_≡_, sym, ap, _∙_}
 use Prim.Native.Nat.{ℕ, _-_, _<_, _≤_}
-use lib.ListN.{getD}
-use mathlib.Core.Bool.{false, false≢true}
+use mathlib.Core.List.{[], _∷_}
+use mathlib.Core.Bool.{true, false, not}
 use borrow.Author.Count.{below-more}
-use Rattle.paired.specs.Slots.{live}
+use borrow.Author.Tests.{not-true}
+use Rattle.form.proofs.Cases.{each}
+use Rattle.paired.specs.Slots.{slotAt, live}
+use borrow.Author.Needs.{needs}
 use Rattle.paired.proofs.slot.none_waits.Statement.{statement}
 use Rattle.paired.proofs.slot.none_waits.Tie as tie
 
 abbrev Inv-loop : tie.InvT-loop
-Inv-loop slots s₀ s = (s ≤ 10007) × ((j : ℕ) → j < s → live (getD slots j 0) ≡ false)
+Inv-loop lo hi none₀ s₀ none s = (s ≤ 17203) × (none ≡ true → (j : ℕ) → j < s → live (slotAt lo hi j) ≡ false)
 
 abbrev μ-loop : tie.MeasureT-loop
-μ-loop slots s₀ s = 10007 - s
+μ-loop lo hi none₀ s₀ none s = 17203 - s
 
 loop-holds : tie.Need-loop-holds Inv-loop μ-loop
-loop-holds c = (omega arith, λ j h. absurd (omega arith))
-
-returns : tie.Need-returns Inv-loop μ-loop
-returns c = λ e. absurd (false≢true e)
+loop-holds c = (omega arith, λ _ j h. absurd (omega arith))
 
 loop-again : tie.Need-loop-again Inv-loop μ-loop
-loop-again c = (omega arith, below-more _ _ (c .before .before .before .before .loop .inv .1) (sym (c .before .is-live .ensures) ∙ c .if1 .left))
+loop-again c =
+    let loop = c .before .before .before .before .before .loop in (
+      omega arith,
+      λ e.
+          let both = each (loop .none) (not (c .is-live .result) ∷ []) e in
+          below-more _ _ (loop .inv .1 (both .0)) (ap live (sym (c .before .number .ensures)) ∙ sym (c .is-live .ensures) ∙ not-true _ (both .1)),
+    )
 
-returns-2 : tie.Need-returns-2 Inv-loop μ-loop
-returns-2 c = λ _ j h. c .before .loop .inv .1 j (omega arith)
+returns : tie.Need-returns Inv-loop μ-loop
+returns c = λ e j h. c .before .loop .inv .1 e j (omega arith)
 
 pub none-waits-spec : {M : Type 1} → statement M
 none-waits-spec =
@@ -37,9 +42,10 @@ none-waits-spec =
     loop-holds
     (λ c. search needs)
     (λ c. search needs)
+    (λ c. search needs)
     (λ c κs. search needs)
-    returns
+    (λ c κs. search needs)
     (λ c. search needs)
     (λ c. search needs)
     loop-again
-    returns-2)
+    returns)

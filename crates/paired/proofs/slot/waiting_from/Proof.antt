@@ -1,22 +1,23 @@
 -- The slot that is found was read, and its tuple compared.
-use borrow.Author.Needs.{needs}
 use native.Mathlib.Omega.{arith}
 use Prim.Native.Nat.{_-_, _<_}
-use mathlib.Core.Path.{sym, _∙_}
+use mathlib.Core.Path.{ap, sym, _∙_}
+use Rattle.paired.specs.Slots.{waiting, Tagged}
+use borrow.Author.Needs.{needs}
 use Rattle.paired.proofs.slot.waiting_from.Statement.{statement}
 use Rattle.paired.proofs.slot.waiting_from.Tie as tie
 
 abbrev Inv-loop : tie.InvT-loop
-Inv-loop ext slots from t s₀ tried₀ s tried = s < 10007
+Inv-loop ext lo hi from t low span s₀ tried₀ s tried = (s < 17203) × Tagged span low
 
 abbrev μ-loop : tie.MeasureT-loop
-μ-loop ext slots from t s₀ tried₀ s tried = 2048 - tried
+μ-loop ext lo hi from t low span s₀ tried₀ s tried = 2048 - tried
 
 returns : tie.Need-returns Inv-loop μ-loop
 returns c = λ h. absurd (omega arith)
 
 returns-2 : tie.Need-returns-2 Inv-loop μ-loop
-returns-2 c = λ _. sym (c .before .waits .ensures) ∙ c .if2 .taken
+returns-2 c = λ _. ap (waiting _ _ _) (sym (c .before .before .before .number .ensures)) ∙ c .before .waits .ensures (c .if2 .taken)
 
 returns-3 : tie.Need-returns-3 Inv-loop μ-loop
 returns-3 c = λ h. absurd (omega arith)
@@ -30,9 +31,9 @@ waiting-from-spec =
     (λ c. search needs)
     (λ c. search needs)
     (λ c. search needs)
+    (λ c. search needs)
+    (λ c κs. search needs)
     returns
-    (λ c. search needs)
-    (λ c. search needs)
     (λ c κs. search needs)
     returns-2
     (λ c κs. search needs)

@@ -1,35 +1,41 @@
--- A slot where no row waits is refused first.
+-- A number between low and low + span is that of a row with this tag.
 use native.Mathlib.Omega.{arith}
-use mathlib.Core.Path.{sym, ap, _∙_}
-use borrow.Author.Tests.{not-true, not-false}
+use mathlib.Core.Bool.{false≢true}
+use mathlib.Core.Path.{_≡_, sym, ap, _∙_}
+use Prim.Native.Nat.{_+_, _-_}
 use Rattle.rules.specs.Bus.{sameTuple}
 use Rattle.paired.specs.Slots.{tupleOf, waiting}
-use Rattle.paired.proofs.Held.{live-some}
+use Rattle.paired.proofs.Held.{waits-as}
 use borrow.Author.Needs.{needs}
 use Rattle.paired.proofs.slot.waits.Statement.{statement}
 use Rattle.paired.proofs.slot.waits.Tie as tie
 
 returns : tie.Need-returns
-unfolding waiting
-returns c = rw (sym (c .before .is-live .ensures) ∙ not-true _ (c .if1 .taken))
-
-sub-row : tie.Need-sub-row
-sub-row c = omega (arith, live-some (c .before .before .before .args .x) (sym (c .before .is-live .ensures) ∙ not-false _ (c .if1 .left)))
+returns c = λ e. absurd (false≢true e)
 
 returns-2 : tie.Need-returns-2
-unfolding waiting
-returns-2 c =
-    rw (sym (c .before .before .before .is-live .ensures) ∙ not-false _ (c .before .before .if1 .left))
-    (c .same .ensures ∙ ap (λ ρ. sameTuple ρ (tupleOf (c .before .before .before .before .before .args .t))) (c .before .tuple-at .ensures))
+returns-2 c = λ e. absurd (false≢true e)
+
+returns-3 : tie.Need-returns-3
+returns-3 c =
+    let start = c .before .before .before .before .before in
+    let row = start .args .x - start .args .low - 1 in
+    let above : start .args .x ≡ start .args .low + row + 1 = omega arith in
+    let found = waits-as (start .args .ext .now) (tupleOf (start .args .t)) row (start .pre) (omega arith) in
+    λ e.
+    ap (waiting _ _ _) above ∙ found ∙ ap (λ ρ. sameTuple ρ (tupleOf (start .args .t))) (sym (c .before .tuple-at .ensures)) ∙ sym (c .same .ensures) ∙ e
 
 pub waits-spec : {M : Type 1} → statement M
 waits-spec =
     tie.close
     (tie.spec
-    (λ c κs. search needs)
     returns
-    sub-row
+    (λ c. search needs)
+    returns-2
+    (λ c. search needs)
+    (λ c. search needs)
+    (λ c. search needs)
     (λ c. search needs)
     (λ c κs. search needs)
     (λ c κs. search needs)
-    returns-2)
+    returns-3)

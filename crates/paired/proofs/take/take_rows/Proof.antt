@@ -11,11 +11,11 @@ use Rattle.paired.proofs.take.take_rows.Statement.{statement}
 use Rattle.paired.proofs.take.take_rows.Tie as tie
 
 abbrev Inv-loop : tie.InvT-loop
-Inv-loop program exec ext slots₀ rounds class h r₀ slots r =
-    (h ≡ length exec / 32) × (r ≤ h) × (Taken program exec ext rounds class slots₀ 0 → Taken program exec ext rounds class slots r)
+Inv-loop program exec ext lo₀ hi₀ span rounds class h r₀ lo hi r =
+    (h ≡ length exec / 32) × (r ≤ h) × (Taken program exec ext span rounds class lo₀ hi₀ 0 → Taken program exec ext span rounds class lo hi r)
 
 abbrev μ-loop : tie.MeasureT-loop
-μ-loop program exec ext slots₀ rounds class h r₀ slots r = h - r
+μ-loop program exec ext lo₀ hi₀ span rounds class h r₀ lo hi r = h - r
 
 loop-holds : tie.Need-loop-holds Inv-loop μ-loop
 loop-holds c = (refl, omega arith, λ taken. taken)
@@ -25,7 +25,7 @@ returns c = λ e. absurd (false≢true e)
 
 loop-again : tie.Need-loop-again Inv-loop μ-loop
 loop-again c =
-    (refl, omega arith, λ taken. c .before .take-row .ensures (not-false _ (c .if1 .left)) (c .before .before .before .before .loop .inv .2 taken))
+    (refl, omega arith, λ taken. c .before .take-row .ensures (not-false _ (c .if1 .left)) (c .before .before .before .before .before .loop .inv .2 taken))
 
 returns-2 : tie.Need-returns-2 Inv-loop μ-loop
 returns-2 c =
