@@ -12,9 +12,11 @@ use walks::exec_walk;
 use walks::ext_rule;
 use walks::ext_walk;
 ghost use mathlib.Core.Path.{_≡_};
+ghost use mathlib.Core.Bool.{true};
 ghost use Prim.Native.Nat.{_<_, _^_};
 ghost use Rattle.rules.specs.Satisfies.{Words};
-ghost use Rattle.parts.specs.Words.{WellFormed};
+ghost use Rattle.judged.specs.Judged.{firstWord};
+ghost use Rattle.parts.specs.Words.{AllWords, WellFormed};
 ghost use Rattle.judge.specs.Stages.{wordsOf, programOf, rulesOf, Short, Sees};
 
 // 5 EXEC, 6 EXTENSION and 7 BUS.
@@ -73,6 +75,14 @@ fn program_answer(
     rules_answer(program, memory, exec, ext, seen)
 }
 
+// The first word at or above p, of a part of which a walk may have seen that it has none.
+fn known_word(bytes: &[u8], seen: bool) -> usize
+    requires { ⌜ (seen ≡ true → AllWords (now bytes)) ⌝ }
+    ensures { λ r. ⌜ r ≡ firstWord (now (bytes .entry)) ⌝ }
+{
+    first_word_unless(bytes, seen)
+}
+
 // 2 WORD by part, then the program.
 pub fn words_answer(
     program: &[u8],
@@ -86,7 +96,7 @@ pub fn words_answer(
     ensures { λ r. ⌜ r ≡ wordsOf (now (program .entry)) (now (memory .entry)) pc fp (now (exec .entry)) (now (ext .entry)) ⌝ }
 {
     let listed = program_walk(program);
-    let a = first_word_unless(program, listed.words);
+    let a = known_word(program, listed.words);
     if a < program.len() / 4 {
         return word_refused(1, a);
     }
@@ -95,12 +105,12 @@ pub fn words_answer(
         return word_refused(2, b);
     }
     let ran = exec_walk(program, memory, exec, ext);
-    let c = first_word_unless(exec, ran.words);
+    let c = known_word(exec, ran.words);
     if c < exec.len() / 4 {
         return word_refused(3, c);
     }
     let extended = ext_walk(memory, ext);
-    let d = first_word_unless(ext, extended.words);
+    let d = known_word(ext, extended.words);
     if d < ext.len() / 4 {
         return word_refused(4, d);
     }

@@ -1,6 +1,6 @@
 -- What a walk leaves, where it found no instruction that is malformed, or saw that all words are below p.
 -- Assumes nothing.
-use mathlib.Core.Path.{_≡_, refl, sym}
+use mathlib.Core.Path.{_≡_, refl, sym, _∙_}
 use mathlib.Core.Bool.{Bool, true, false}
 use mathlib.Core.List.{List, []}
 use Prim.Native.Nat.{ℕ, _*_, _/_, _≤_}
@@ -17,6 +17,6 @@ pub all-formed : (program : List ℕ) (m : ℕ) → m ≡ firstMalformed (given 
 all-formed program m e past = first-past (λ i. wellFormed (instructionAt program (48 * i))) (length program / 48) (rw e at past)
 
 -- the first word at or above p, by what a walk saw
-pub seen-words : (bytes : List ℕ) (seen : Bool) → (seen ≡ true → AllWords bytes) → either seen (length bytes / 4) (firstWord bytes) ≡ firstWord bytes
-seen-words bytes true all = sym (all refl)
-seen-words bytes false all = refl
+pub seen-words : (bytes : List ℕ) (seen : Bool) (m : ℕ) → m ≡ either seen (length bytes / 4) (firstWord bytes) → (seen ≡ true → AllWords bytes) → m ≡ firstWord bytes
+seen-words bytes true m e all = e ∙ sym (all refl)
+seen-words bytes false m e all = e

@@ -1,7 +1,7 @@
 -- At each return the tests that led there pick the answer; e1 to e5 are the places where a test passed.
 use borrow.Author.Needs.{needs}
 use borrow.Author.Tests.{lt-ltb, le-ltb}
-use mathlib.Core.Path.{refl, _∙_}
+use mathlib.Core.Path.{refl}
 use Rattle.word.specs.Word.{p}
 use Rattle.tabler.proofs.Ending.{unchanged}
 use Rattle.parts.proofs.Formed.{all-formed, seen-words}
@@ -9,21 +9,31 @@ use Rattle.tabler.proofs.tests.table_words.Statement.{statement}
 use Rattle.tabler.proofs.tests.table_words.Tie as tie
 
 returns : tie.Need-returns
-returns c = unchanged _ _ _ _ _ _ (λ old written. refl) (rw (← (c .before .first-word-unless .ensures ∙ seen-words _ _ (c .before .before .program-walk .ensures .1)), lt-ltb _ _ (c .if1 .taken)))
+returns c =
+    let found = c .before .first-word-unless in
+    let walked = c .before .before in
+    let start = walked .before .before .before .before .before in
+    let listed = seen-words (start .args .program .now) (walked .program-walk .result .words) (found .result) (found .ensures) (walked .program-walk .ensures .1) in
+    unchanged _ _ _ _ _ _ (λ old written. refl) (rw (← listed, lt-ltb _ _ (c .if1 .taken)))
 
 returns-2 : tie.Need-returns-2
 returns-2 c =
     let e1 = c .before .before in
+    let walked = e1 .before .before in
+    let start = walked .before .before .before .before .before in
+    let listed = seen-words (start .args .program .now) (walked .program-walk .result .words) (e1 .before .first-word-unless .result) (e1 .before .first-word-unless .ensures) (walked .program-walk .ensures .1) in
     unchanged _ _ _ _ _ _ (λ old written. refl)
-    (rw (← (e1 .before .first-word-unless .ensures ∙ seen-words _ _ (e1 .before .before .program-walk .ensures .1)), le-ltb _ _ (e1 .if1 .left), ← c .before .first-word .ensures, lt-ltb _ _ (c .if2 .taken)))
+    (rw (← listed, le-ltb _ _ (e1 .if1 .left), ← c .before .first-word .ensures, lt-ltb _ _ (c .if2 .taken)))
 
 returns-3 : tie.Need-returns-3
 returns-3 c =
     let e2 = c .before in
     let e1 = e2 .before .before in
     let walked = e1 .before .before in
+    let start = walked .before .before .before .before .before in
+    let listed = seen-words (start .args .program .now) (walked .program-walk .result .words) (e1 .before .first-word-unless .result) (e1 .before .first-word-unless .ensures) (walked .program-walk .ensures .1) in
     unchanged _ _ _ _ _ _ (λ old written. refl)
-    (rw (← (e1 .before .first-word-unless .ensures ∙ seen-words _ _ (e1 .before .before .program-walk .ensures .1)), le-ltb _ _ (e1 .if1 .left), ← e2 .before .first-word .ensures, le-ltb _ _ (e2 .if2 .left), ← walked .program-walk .ensures .0, lt-ltb _ _ (c .if3 .taken)))
+    (rw (← listed, le-ltb _ _ (e1 .if1 .left), ← e2 .before .first-word .ensures, le-ltb _ _ (e2 .if2 .left), ← walked .program-walk .ensures .0, lt-ltb _ _ (c .if3 .taken)))
 
 returns-4 : tie.Need-returns-4
 returns-4 c =
@@ -31,8 +41,10 @@ returns-4 c =
     let e2 = e3 .before in
     let e1 = e2 .before .before in
     let walked = e1 .before .before in
+    let start = walked .before .before .before .before .before in
+    let listed = seen-words (start .args .program .now) (walked .program-walk .result .words) (e1 .before .first-word-unless .result) (e1 .before .first-word-unless .ensures) (walked .program-walk .ensures .1) in
     unchanged _ _ _ _ _ _ (λ old written. refl)
-    (rw (← (e1 .before .first-word-unless .ensures ∙ seen-words _ _ (e1 .before .before .program-walk .ensures .1)), le-ltb _ _ (e1 .if1 .left), ← e2 .before .first-word .ensures, le-ltb _ _ (e2 .if2 .left), ← walked .program-walk .ensures .0, le-ltb _ _ (e3 .if3 .left), le-ltb _ p (c .if4 .taken)))
+    (rw (← listed, le-ltb _ _ (e1 .if1 .left), ← e2 .before .first-word .ensures, le-ltb _ _ (e2 .if2 .left), ← walked .program-walk .ensures .0, le-ltb _ _ (e3 .if3 .left), le-ltb _ p (c .if4 .taken)))
 
 returns-5 : tie.Need-returns-5
 returns-5 c =
@@ -41,8 +53,10 @@ returns-5 c =
     let e2 = e3 .before in
     let e1 = e2 .before .before in
     let walked = e1 .before .before in
+    let start = walked .before .before .before .before .before in
+    let listed = seen-words (start .args .program .now) (walked .program-walk .result .words) (e1 .before .first-word-unless .result) (e1 .before .first-word-unless .ensures) (walked .program-walk .ensures .1) in
     unchanged _ _ _ _ _ _ (λ old written. refl)
-    (rw (← (e1 .before .first-word-unless .ensures ∙ seen-words _ _ (e1 .before .before .program-walk .ensures .1)), le-ltb _ _ (e1 .if1 .left), ← e2 .before .first-word .ensures, le-ltb _ _ (e2 .if2 .left), ← walked .program-walk .ensures .0, le-ltb _ _ (e3 .if3 .left), lt-ltb _ p (e4 .if4 .left), le-ltb _ p (c .if5 .taken)))
+    (rw (← listed, le-ltb _ _ (e1 .if1 .left), ← e2 .before .first-word .ensures, le-ltb _ _ (e2 .if2 .left), ← walked .program-walk .ensures .0, le-ltb _ _ (e3 .if3 .left), lt-ltb _ p (e4 .if4 .left), le-ltb _ p (c .if5 .taken)))
 
 finish-requires : tie.Need-finish-requires
 finish-requires c κs =
@@ -60,7 +74,9 @@ returns-6 c =
     let e2 = e3 .before in
     let e1 = e2 .before .before in
     let walked = e1 .before .before in
-    rw (← (e1 .before .first-word-unless .ensures ∙ seen-words _ _ (e1 .before .before .program-walk .ensures .1)), le-ltb _ _ (e1 .if1 .left), ← e2 .before .first-word .ensures, le-ltb _ _ (e2 .if2 .left), ← walked .program-walk .ensures .0, le-ltb _ _ (e3 .if3 .left), lt-ltb _ p (e4 .if4 .left), lt-ltb _ p (e5 .if5 .left))
+    let start = walked .before .before .before .before .before in
+    let listed = seen-words (start .args .program .now) (walked .program-walk .result .words) (e1 .before .first-word-unless .result) (e1 .before .first-word-unless .ensures) (walked .program-walk .ensures .1) in
+    rw (← listed, le-ltb _ _ (e1 .if1 .left), ← e2 .before .first-word .ensures, le-ltb _ _ (e2 .if2 .left), ← walked .program-walk .ensures .0, le-ltb _ _ (e3 .if3 .left), lt-ltb _ p (e4 .if4 .left), lt-ltb _ p (e5 .if5 .left))
     (f .finish .ensures)
 
 pub table-words-spec : {M : Type 1} → statement M
