@@ -1,5 +1,5 @@
-/* Tables of 16,383 groups: in another order than the pushes, the judge's bus needs more than one round for them, and where they do not balance,
- * more than one window. */
+/* Tables of 16,383 and of 32,767 groups: in another order than the pushes, the judge's bus is settled by slots in the first and by more than one
+ * round in the second, and where it does not balance more than one window is needed. */
 #include <inttypes.h>
 #include <stdio.h>
 #include <string.h>
@@ -38,11 +38,12 @@ static bool judge_both(const speed_input *in, const uint8_t *ext, expected e)
     return good;
 }
 
-bool try_large(void)
+static bool try_size(unsigned height_log)
 {
-    speed_input in = speed_build(18, 16, 20, 1);
+    speed_input in = speed_build(height_log, height_log - 2, height_log + 2, 1);
     uint32_t tabled = second_table(in.program, in.program_len, in.memory, in.memory_len, 0, 0, in.exec, in.exec_len, in.ext, in.ext_len)
                           .verdict;
+    printf("large: H 2^%u, K 2^%u\n", height_log, height_log - 2);
     bool good = tabled == ACCEPTED;
     good &= judge_both(&in, in.ext, (expected){"in order", ACCEPTED});
     speed_shuffle(&in, 2);
@@ -52,4 +53,11 @@ bool try_large(void)
     good &= judge_both(&in, in.shuffled, (expected){"shuffled, one group twice", BUS});
     speed_free(&in);
     return good;
+}
+
+/* As many groups as fit the slots of one walk, and twice as many. */
+bool try_large(void)
+{
+    bool good = try_size(18);
+    return try_size(19) && good;
 }

@@ -3,7 +3,7 @@
  *   differ SEED CALLS             stops after that many calls
  *   differ SEED 0 SECONDS         stops after that long
  *   differ --page SEED CALLS      buffers at pages that fault, small stack
- *   differ --large                a few tables of 16,383 groups
+ *   differ --large                a few tables of 16,383 and of 32,767 groups
  *
  * Ends with 0 if there is no difference and everything listed in tally.c was
  * reached, 1 if not, 2 if it could not run. */
