@@ -1,4 +1,4 @@
--- Rows that wait in slots: what putting one, and taking one, does to the count of each tuple of the class.
+-- Rows that wait in slots: what putting one, and taking one, does to the count of each tuple, and of each tuple of a class.
 -- Assumes nothing.
 use mathlib.Core.Path.{_≡_, refl, sym, ap, _∙_}
 use mathlib.Core.Bool.{Bool, true, false, _&&_}
@@ -14,9 +14,10 @@ use Rattle.rules.specs.Given.{either}
 use Rattle.rules.specs.Bus.{Tuple, sameTuple, total, pushed, pushes, pulled, pulls, pushedTo, pulledTo, instructionOf}
 use Rattle.rules.specs.Sizes.{given, tables}
 use Rattle.form.proofs.Cases.{each}
-use Rattle.paired.specs.Slots.{classOf, live, slotAt, waiting, heldTo, Tagged, Sized, Put, Taken}
+use Rattle.paired.specs.Slots.{classOf, live, slotAt, waiting, heldTo, Tagged, Sized, OneMore, OneLess, Put, Taken}
 use Rattle.paired.proofs.Tuples.{same-tuple}
 use Rattle.paired.proofs.Totals.{one-more, counts-none, total-zero, total-set}
+use Rattle.paired.proofs.Pulling.{pulls-none, pulls-one}
 
 -- no row waits where no slot is live
 dead : (ext : List ℕ) (span : ℕ) (σ : Tuple) (x : ℕ) → live x ≡ false → either (waiting ext span σ x) 1 0 ≡ 0
@@ -60,6 +61,39 @@ module _ (lo hi : List ℕ) (size : Sized lo hi) (q a b : ℕ) (inside : q < 172
       total-set (λ s. held (slotAt (set lo q a) (set hi q b) s)) were q (λ s differs. ap held (kept s differs)) n h
       ∙ ap (λ x. total were n + held x) stored
 
+  -- the number of row k is put into an empty slot
+  pub slot-put : (ext : List ℕ) {span low : ℕ} (k : ℕ) → Tagged span low → k + 1 < span → a + 65536 * b ≡ low + k + 1 → slotAt lo hi q ≡ 0
+      → OneMore ext span (pulled (extAt ext (120 * k))) lo hi (set lo q a) (set hi q b)
+  slot-put ext {span} k tagged few number empty =
+      record {
+        size = size-set;
+        held = λ σ.
+            let held : ℕ → ℕ = λ x. either (waiting ext span σ x) 1 0 in
+            let was = ap held empty ∙ dead ext span σ 0 refl in
+            let is = ap held number ∙ ap (λ b. either b 1 0) (waits-as ext σ k tagged few) in
+            omega (arith, held-set ext span σ 17203 inside);
+      }
+
+-- a row that waits for a tuple waits as that tuple
+waits-same : (ext : List ℕ) (span : ℕ) (τ σ : Tuple) (x : ℕ) → waiting ext span τ x ≡ true → waiting ext span σ x ≡ sameTuple τ σ
+unfolding waiting
+waits-same ext span τ σ x e =
+    let row = pulled (extAt ext (120 * (x % span - 1))) in
+    let both = each (live x) (sameTuple row τ ∷ []) e in
+    ap (λ b. b && sameTuple row σ) (both .0) ∙ ap (λ ρ. sameTuple ρ σ) (same-tuple row τ (both .1))
+
+-- a slot in which a row waits is taken
+pub slot-taken : (ext : List ℕ) (span : ℕ) (τ : Tuple) (lo hi : List ℕ) (q : ℕ) → Sized lo hi → q < 17203 → waiting ext span τ (slotAt lo hi q) ≡ true
+    → OneLess ext span τ lo hi (set lo q 65535) (set hi q 255)
+slot-taken ext span τ lo hi q size inside waits =
+    record {
+      size = size-set lo hi size q 65535 255 inside;
+      held = λ σ.
+          let gone = dead ext span σ 16777215 refl in
+          let was = ap (λ b. either b 1 0) (waits-same ext span τ σ (slotAt lo hi q) waits) in
+          omega (arith, held-set lo hi size q 65535 255 inside ext span σ 17203 inside);
+    }
+
 -- a row counts nothing of a tuple of another class
 other-class : (rounds class : ℕ) (σ τ : Tuple) (n : ℕ) → classOf rounds σ ≡ class → (classOf rounds τ ≡ class → ⊥) → either (sameTuple τ σ) n 0 ≡ 0
 other-class rounds class σ τ n mine differs = go (sameTuple τ σ) refl
@@ -83,12 +117,7 @@ module _ {ext : List ℕ} {span rounds class : ℕ} {lo hi : List ℕ} {k : ℕ}
   pullsOf σ j = either (sameTuple (pulled (extAt ext (120 * j))) σ) (pulls (extAt ext (120 * j))) 0
 
   pub pulls-nothing : 0 ≡ pulls (extAt ext (120 * k)) → Put ext span rounds class lo hi (k + 1)
-  pulls-nothing none =
-      let row = extAt ext (120 * k) in
-      record {
-        size = put .size;
-        waits = λ σ mine. omega (arith, one-more (pullsOf σ) k, put .waits σ mine, counts-none (sameTuple (pulled row) σ) (pulls row) (sym none));
-      }
+  pulls-nothing none = record { size = put .size; waits = λ σ mine. put .waits σ mine ∙ sym (pulls-none ext σ k (sym none)) }
 
   pub pulls-other : (classOf rounds (pulled (extAt ext (120 * k))) ≡ class → ⊥) → Put ext span rounds class lo hi (k + 1)
   pulls-other differs =
@@ -99,17 +128,12 @@ module _ {ext : List ℕ} {span rounds class : ℕ} {lo hi : List ℕ} {k : ℕ}
             omega (arith, one-more (pullsOf σ) k, put .waits σ mine, other-class rounds class σ (pulled row) (pulls row) mine differs);
       }
 
-  pub pulls-once : {low : ℕ} (q a b : ℕ) → 1 ≡ pulls (extAt ext (120 * k)) → Tagged span low → k + 1 < span → a + 65536 * b ≡ low + k + 1
-      → q < 17203 → slotAt lo hi q ≡ 0 → Put ext span rounds class (set lo q a) (set hi q b) (k + 1)
-  pulls-once q a b once tagged few number inside empty =
+  pub pulls-once : {lo₁ hi₁ : List ℕ} → 1 ≡ pulls (extAt ext (120 * k)) → OneMore ext span (pulled (extAt ext (120 * k))) lo hi lo₁ hi₁
+      → Put ext span rounds class lo₁ hi₁ (k + 1)
+  pulls-once once more =
       record {
-        size = size-set lo hi (put .size) q a b inside;
-        waits = λ σ mine.
-            let held : ℕ → ℕ = λ x. either (waiting ext span σ x) 1 0 in
-            let was = ap held empty ∙ dead ext span σ 0 refl in
-            let is : held (a + 65536 * b) ≡ pullsOf σ k = ap held number ∙ (λ i. either (waits-as ext σ k tagged few i) (once i) 0) in
-            let written = held-set lo hi (put .size) q a b inside ext span σ 17203 inside in
-            omega (arith, one-more (pullsOf σ) k, put .waits σ mine);
+        size = more .size;
+        waits = λ σ mine. omega (arith, put .waits σ mine, more .held σ, pulls-one ext (pulled (extAt ext (120 * k))) σ k (sym once) refl);
       }
 
 -- every row is put, and none is taken yet
@@ -144,24 +168,14 @@ module _ {program exec ext : List ℕ} {span rounds class : ℕ} {lo hi : List �
         waits = λ σ mine. omega (arith, one-more (pushesOf σ) r, taken .waits σ mine, other-class rounds class σ sent (pushes i) mine differs);
       }
 
-  -- a row that waits for a tuple waits as that tuple
-  waits-same : (τ σ : Tuple) (x : ℕ) → waiting ext span τ x ≡ true → waiting ext span σ x ≡ sameTuple τ σ
-  unfolding waiting
-  waits-same τ σ x e =
-      let row = pulled (extAt ext (120 * (x % span - 1))) in
-      let both = each (live x) (sameTuple row τ ∷ []) e in
-      ap (λ b. b && sameTuple row σ) (both .0) ∙ ap (λ ρ. sameTuple ρ σ) (same-tuple row τ (both .1))
-
-  pub pushes-once : (q : ℕ) → 1 ≡ pushes (instructionOf (given program []) (tables exec []) r) → q < 17203
-      → waiting ext span sent (slotAt lo hi q) ≡ true → Taken program exec ext span rounds class (set lo q 65535) (set hi q 255) (r + 1)
-  pushes-once q once inside waits =
+  pub pushes-once : {lo₁ hi₁ : List ℕ} → 1 ≡ pushes (instructionOf (given program []) (tables exec []) r) → OneLess ext span sent lo hi lo₁ hi₁
+      → Taken program exec ext span rounds class lo₁ hi₁ (r + 1)
+  pushes-once once less =
       record {
-        size = size-set lo hi (taken .size) q 65535 255 inside;
+        size = less .size;
         waits = λ σ mine.
-            let gone = dead ext span σ 16777215 refl in
-            let was : either (waiting ext span σ (slotAt lo hi q)) 1 0 ≡ pushesOf σ r = λ i. either (waits-same sent σ (slotAt lo hi q) waits i) (once i) 0 in
-            let written = held-set lo hi (taken .size) q 65535 255 inside ext span σ 17203 inside in
-            omega (arith, one-more (pushesOf σ) r, taken .waits σ mine);
+            let is : either (sameTuple sent σ) 1 0 ≡ pushesOf σ r = λ i. either (sameTuple sent σ) (once i) 0 in
+            omega (arith, one-more (pushesOf σ) r, taken .waits σ mine, less .held σ);
       }
 
   -- where no row waits any more, as much is pushed as is pulled

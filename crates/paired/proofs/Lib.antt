@@ -1,5 +1,6 @@
 pub mod Tuples
 pub mod Totals
-pub mod Held
 pub mod Pulling
+pub mod Held
+pub mod Settling
 pub mod Pushing

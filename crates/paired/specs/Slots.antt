@@ -1,4 +1,4 @@
--- Slots in which the pulls of one class of tuples wait. A slot's number is 0 where it is empty, 2^24 - 1 where a push took it, and else
+-- Slots in which pulls wait, of one class of tuples or of all. A slot's number is 0 where it is empty, 2^24 - 1 where a push took it, and else
 -- k + 1 for extension row k, plus a multiple of `span` that is the tag of the row's tuple.
 use mathlib.Core.Path.{_≡_}
 use mathlib.Core.Bool.{Bool, _&&_, not}
@@ -57,6 +57,15 @@ heldTo ext span lo hi σ n = total (λ s. either (waiting ext span σ (slotAt lo
 pub record Sized (lo hi : List ℕ) : Type 0 where
   pub low : length lo ≡ 17203
   pub high : length hi ≡ 17203
+
+-- one row more waits in the slots than before, or one fewer: a row with this tuple
+pub record OneMore (ext : List ℕ) (span : ℕ) (τ : Tuple) (lo hi lo₁ hi₁ : List ℕ) : Type 0 where
+  pub size : Sized lo₁ hi₁
+  pub held : (σ : Tuple) → heldTo ext span lo₁ hi₁ σ 17203 ≡ heldTo ext span lo hi σ 17203 + either (sameTuple τ σ) 1 0
+
+pub record OneLess (ext : List ℕ) (span : ℕ) (τ : Tuple) (lo hi lo₁ hi₁ : List ℕ) : Type 0 where
+  pub size : Sized lo₁ hi₁
+  pub held : (σ : Tuple) → heldTo ext span lo₁ hi₁ σ 17203 + either (sameTuple τ σ) 1 0 ≡ heldTo ext span lo hi σ 17203
 
 -- of each tuple of the class, as many rows wait as the extension rows below k pull
 pub record Put (ext : List ℕ) (span rounds class : ℕ) (lo hi : List ℕ) (k : ℕ) : Type 0 where

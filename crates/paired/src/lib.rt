@@ -1,15 +1,17 @@
-// The bus of tables whose groups stand in any order, settled in rounds where it balances. In each round the pulls of one class of tuples are
-// put into slots, and every push of that class takes one of its tuple.
+// The bus of tables whose groups stand in any order: pushes are settled as a walk comes to them, in order or with the pulls in slots. Where there are
+// too many pulls for that, it is settled in rounds: in each the pulls of one class of tuples are put, and every push of that class takes one of its tuple.
 mod hash;
 mod order;
+mod push;
 mod put;
 mod slot;
 mod take;
 mod times;
 mod tuple;
 
-pub use order::after_pull;
 pub use order::next_pull;
+pub use push::after_push;
+pub use push::settled;
 use put::put_rows;
 use put::starts;
 use slot::none_waits;

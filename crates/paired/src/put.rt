@@ -1,4 +1,5 @@
-// The pulls of a class are put into slots.
+// Pulls are put into slots: one, and all those of a class.
+use crate::Sent;
 use crate::hash::class_of;
 use crate::hash::low_of;
 use crate::hash::slot_of;
@@ -8,9 +9,12 @@ use crate::tuple::tuple_at;
 use word::word_at;
 ghost use mathlib.Core.Path.{_≡_};
 ghost use mathlib.Core.Bool.{true};
+ghost use mathlib.Core.List.{List};
 ghost use lib.ListN.{length};
-ghost use Prim.Native.Nat.{_+_, _/_, _<_};
-ghost use Rattle.paired.specs.Slots.{Room, Put};
+ghost use Prim.Native.Nat.{ℕ, _+_, _*_, _/_, _<_};
+ghost use Rattle.rows.specs.Rows.{extAt};
+ghost use Rattle.rules.specs.Bus.{pulled};
+ghost use Rattle.paired.specs.Slots.{Span, Room, Sized, OneMore, Put};
 
 // How many extension rows start a group: no fewer than pull.
 pub fn starts(ext: &[u8]) -> u64 {
@@ -24,6 +28,22 @@ pub fn starts(ext: &[u8]) -> u64 {
         k += 1;
     }
     found
+}
+
+// Puts extension row k into a slot, where tuple t is looked for. False where none is found.
+pub fn put_slot(lo: &mut [u16; 17203], hi: &mut [u8; 17203], span: u32, t: Sent, k: usize) -> bool
+    requires { ⌜ Span span × (k + 1 < span) ⌝ }
+    ensures { λ r. ⌜ (r ≡ true → (ext : List ℕ) → Sized (now (lo .entry)) (now (hi .entry))
+        → OneMore ext span (pulled (extAt ext (120 * k))) (now (lo .entry)) (now (hi .entry)) (now (lo .exit)) (now (hi .exit))) ⌝ }
+{
+    let s = empty_from(lo, hi, slot_of(t));
+    if s < 17203 {
+        let x = low_of(t, span) + k as u32 + 1;
+        lo[s] = (x % 65536) as u16;
+        hi[s] = (x / 65536) as u8;
+        return true;
+    }
+    false
 }
 
 // Puts extension row k, if it pulls a tuple of the class. False where it pulls more than once, or no slot is found.
@@ -53,14 +73,7 @@ fn put_row(
     if class_of(t, rounds) != class {
         return true;
     }
-    let s = empty_from(lo, hi, slot_of(t));
-    if s < 17203 {
-        let x = low_of(t, span) + k as u32 + 1;
-        lo[s] = (x % 65536) as u16;
-        hi[s] = (x / 65536) as u8;
-        return true;
-    }
-    false
+    put_slot(lo, hi, span, t, k)
 }
 
 pub fn put_rows(

@@ -1,4 +1,4 @@
-// The pushes of a class take what waits in the slots.
+// Pushes take what waits in the slots: one, and all those of a class.
 use crate::Sent;
 use crate::hash::class_of;
 use crate::hash::low_of;
@@ -16,7 +16,7 @@ ghost use Prim.Native.Nat.{_+_, _*_, _/_, _<_};
 ghost use Rattle.rows.specs.Rows.{execAt};
 ghost use Rattle.rules.specs.Bus.{pushed, instructionOf};
 ghost use Rattle.rules.specs.Sizes.{given, tables};
-ghost use Rattle.paired.specs.Slots.{tupleOf, Span, Taken};
+ghost use Rattle.paired.specs.Slots.{tupleOf, Span, Sized, OneLess, Taken};
 
 // The tuple of execution row r.
 fn row_tuple(program: &[u8], exec: &[u8], r: usize) -> Sent
@@ -25,6 +25,27 @@ fn row_tuple(program: &[u8], exec: &[u8], r: usize) -> Sent
 {
     let x = exec_row(exec, 32 * r);
     pushed_tuple(instruction_at(program, 48 * (x.pc as usize)), x)
+}
+
+// Takes a row with tuple t out of its slot. False where none is found that waits.
+pub fn take_slot(
+    ext: &[u8],
+    lo: &mut [u16; 17203],
+    hi: &mut [u8; 17203],
+    span: u32,
+    t: Sent,
+) -> bool
+    requires { ⌜ Span span ⌝ }
+    ensures { λ b. ⌜ (b ≡ true → Sized (now (lo .entry)) (now (hi .entry))
+        → OneLess (now (ext .entry)) span (tupleOf t) (now (lo .entry)) (now (hi .entry)) (now (lo .exit)) (now (hi .exit))) ⌝ }
+{
+    let s = waiting_from(ext, lo, hi, slot_of(t), t, low_of(t, span), span);
+    if s < 17203 {
+        lo[s] = 65535;
+        hi[s] = 255;
+        return true;
+    }
+    false
 }
 
 // Takes what execution row r pushes, if its tuple is of the class. False where it may push more than once, or no row waits for it.
@@ -56,13 +77,7 @@ fn take_row(
     if class_of(t, rounds) != class {
         return true;
     }
-    let s = waiting_from(ext, lo, hi, slot_of(t), t, low_of(t, span), span);
-    if s < 17203 {
-        lo[s] = 65535;
-        hi[s] = 255;
-        return true;
-    }
-    false
+    take_slot(ext, lo, hi, span, t)
 }
 
 pub fn take_rows(

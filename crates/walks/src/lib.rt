@@ -1,13 +1,14 @@
 // One walk over each table: the first row with a rule that fails, and what its rows tell on the way, as they are read anyway: whether their words
-// are below p, and whether pushes and pulls stand in the same order. Each row is tried by plain comparisons; only where they don't settle
-// it are the polynomials taken. An extension row is kept for the row before; of the next execution row only pc and fp are used.
+// are below p, and whether each push has its pull, in the same order or in any. Each row is tried by plain comparisons; only where they don't
+// settle it are the polynomials taken. An extension row is kept for the row before; of the next execution row only pc and fp are used.
 use exec_checks::exec_failing;
 use exec_checks::exec_holds;
 use ext_checks::ext_failing;
 use ext_checks::ext_holds;
 use form::instruction_at;
-use paired::after_pull;
+use paired::after_push;
 use paired::pushed_tuple;
+use paired::settled;
 use parts::Walked;
 use parts::are_words;
 use rows::Exec;
@@ -17,21 +18,21 @@ use rows::ext_row;
 ghost use mathlib.Core.Path.{_≡_};
 ghost use mathlib.Core.Bool.{true};
 ghost use mathlib.Core.List.{[]};
-ghost use Prim.Native.Nat.{_*_, _/_, _<_, _≤_};
+ghost use Prim.Native.Nat.{ℕ, _+_, _*_, _/_, _<_, _≤_};
 ghost use lib.Dec.{ltb};
 ghost use lib.ListN.{length};
 ghost use Rattle.form.specs.Instruction.{instructionAt};
 ghost use Rattle.rows.specs.Rows.{execAt, extAt};
 ghost use Rattle.rules.specs.Given.{next, either};
-ghost use Rattle.rules.specs.Bus.{pushed, pushes};
+ghost use Rattle.rules.specs.Bus.{Tuple, sameTuple, pushed, pushes};
 ghost use Rattle.parts.specs.Words.{WordsFrom, AllWords, WellFormed};
-ghost use Rattle.paired.specs.Order.{PullsTimes, InOrder};
+ghost use Rattle.paired.specs.Order.{InOrder, Settles};
 ghost use Rattle.exec_checks.specs.Parts.{execFails};
 ghost use Rattle.judged.specs.Judged.{execFailing, extFailing, firstExec, firstExt};
 ghost use Rattle.rules.specs.Sizes.{given, tables};
 
-// What the walk over the execution table tells: the first row that fails; whether all words were seen to be below p; and the extension row after
-// the last pull where every push so far was the next pull, or else a number past the end.
+// What the walk over the execution table tells: the first row that fails; whether all words were seen to be below p; and the extension row up to
+// which the pulls are just what was pushed, or else a number past the end.
 pub struct Executed {
     pub at: usize,
     pub words: bool,
@@ -99,12 +100,20 @@ fn exec_pair_holds(program: &[u8], memory: &[u8], x: Exec, y: Exec) -> bool
     exec_holds(count, memory, x, y, i)
 }
 
-// The extension row after the one that pulls what an execution row pushes, from row k on: k where it pushes nothing, and past the end where the
-// next pull is another. A well-formed instruction with no opcode word is a precompile and pushes once; any other doesn't push.
-fn after_row(program: &[u8], ext: &[u8], x: Exec, k: usize) -> usize
-    ensures { λ s. ⌜ (WellFormed (now (program .entry)) → x .pc < length (now (program .entry)) / 48 → s ≤ length (now (ext .entry)) / 120
-        → (k ≤ length (now (ext .entry)) / 120)
-        × PullsTimes (now (ext .entry)) (pushed (instructionAt (now (program .entry)) (48 * x .pc)) x) (pushes (instructionAt (now (program .entry)) (48 * x .pc))) k s) ⌝ }
+// Settles what an execution row pushes: k is where the pushes before it left off, and the result where it does. A well-formed instruction with no
+// opcode word is a precompile and pushes once; any other doesn't push.
+fn after_row(
+    program: &[u8],
+    ext: &[u8],
+    lo: &mut [u16; 17203],
+    hi: &mut [u8; 17203],
+    x: Exec,
+    k: usize,
+) -> usize
+    ensures { λ s. ⌜ (WellFormed (now (program .entry)) → x .pc < length (now (program .entry)) / 48 → (sent : Tuple → ℕ)
+        → Settles (now (ext .entry)) (now (lo .entry)) (now (hi .entry)) k sent
+        → Settles (now (ext .entry)) (now (lo .exit)) (now (hi .exit)) s
+        (λ σ. sent σ + either (sameTuple (pushed (instructionAt (now (program .entry)) (48 * x .pc)) x) σ) (pushes (instructionAt (now (program .entry)) (48 * x .pc))) 0)) ⌝ }
 {
     let pc = x.pc as usize;
     if program.len() / 48 <= pc {
@@ -113,7 +122,7 @@ fn after_row(program: &[u8], ext: &[u8], x: Exec, k: usize) -> usize
     let at = 48 * pc;
     let i = instruction_at(&program[at..at + 48], 0);
     if (i.mul == 0) & (i.jump == 0) & (i.aux == 0) {
-        return after_pull(ext, k, pushed_tuple(i, x));
+        return after_push(ext, lo, hi, k, pushed_tuple(i, x));
     }
     k
 }
@@ -126,6 +135,8 @@ pub fn exec_walk(program: &[u8], memory: &[u8], exec: &[u8], ext: &[u8]) -> Exec
         → InOrder (now (program .entry)) (now (exec .entry)) (now (ext .entry)) (length (now (exec .entry)) / 32) (e .pulled)) ⌝ }
 {
     let n = exec.len() / 32;
+    let mut lo = [0u16; 17203];
+    let mut hi = [0u8; 17203];
     let mut words = true;
     let mut pulled = 0;
     let mut r = 0;
@@ -142,13 +153,13 @@ pub fn exec_walk(program: &[u8], memory: &[u8], exec: &[u8], ext: &[u8]) -> Exec
             }
         }
         words = words & are_words(exec, 8 * r);
-        pulled = after_row(program, ext, x, pulled);
+        pulled = after_row(program, ext, &mut lo, &mut hi, x, pulled);
         r += 1;
     }
     Executed {
         at: r,
         words: words & (8 * n == exec.len() / 4),
-        pulled,
+        pulled: settled(ext, &lo, &hi, pulled),
     }
 }
 

@@ -1,15 +1,15 @@
 -- Each row passed has no rule that fails, by comparisons or by the polynomials, and the walk stops at the first that has one. Its words are seen, and
--- what it pushes is the next pull.
+-- what it pushes is settled.
 use borrow.Author.Needs.{needs}
 use borrow.Author.Tests.{eq-eqb, ne-eqb, eqb-true, ltb-true, not-false}
 use mathlib.Core.Bool.{true, false≢true}
 use mathlib.Core.Logic.{⊎-elim}
 use mathlib.Core.Path.{_≡_, refl, sym, ap, _∙_, subst}
 use mathlib.Core.List.{List, [], _∷_}
-use Prim.Native.Nat.{ℕ, _+_, _-_, _*_, _/_, _<_, _≤_}
+use Prim.Native.Nat.{ℕ, _+_, _-_, _*_, _/_, _<_}
 use native.Mathlib.Omega.{arith}
 use lib.Dec.{eqb}
-use lib.ListN.{length}
+use lib.ListN.{length, length-replicate, getD-replicate}
 use Rattle.form.specs.Instruction.{instructionAt}
 use Rattle.rows.specs.Rows.{execAt}
 use Rattle.rows.specs.declared.Exec.{Exec}
@@ -19,24 +19,23 @@ use Rattle.rules.specs.Satisfies.{All}
 use Rattle.exec_checks.specs.Parts.{execFails}
 use Rattle.form.proofs.Cases.{each}
 use Rattle.rules.specs.Given.{either}
-use Rattle.rules.specs.Bus.{Tuple, sameTuple, pushed, pushes, instructionOf}
+use Rattle.rules.specs.Bus.{Tuple, sameTuple, pushed, pushes, pushedTo}
 use Rattle.judged.specs.Judged.{isWord, firstWord, execRulesAt, execFailing, firstExec}
 use Rattle.judged.proofs.Cases.{is-true}
 use Rattle.judged.proofs.RuleLaws.{failing-holds, exec-numbered}
 use Rattle.parts.specs.Words.{WellFormed}
 use Rattle.parts.proofs.Eights.{eight, eight-seen}
-use Rattle.paired.specs.Order.{PullsTimes, InOrder}
+use Rattle.paired.specs.Order.{InOrder, Settles}
 use Rattle.paired.proofs.Totals.{one-more}
+use Rattle.paired.proofs.Settling.{none-sent, sent-as}
 use Rattle.rules.specs.Sizes.{given, tables}
 use Rattle.parts.proofs.Walks.{Walk, begins, goes-past, goes-past-all, finds, finds-none}
 use Rattle.walks.proofs.exec_walk.Statement.{statement}
 use Rattle.walks.proofs.exec_walk.Tie as tie
 
--- how often row r pushes a tuple
-abbrev pushesOf : List ℕ → List ℕ → Tuple → ℕ → ℕ
-pushesOf program exec σ r =
-    let i = instructionOf (given program []) (tables exec []) r in
-    either (sameTuple (pushed i (execAt exec (32 * r))) σ) (pushes i) 0
+-- how often a row pushes a tuple
+abbrev pushedBy : List ℕ → Exec → Tuple → ℕ
+pushedBy program x σ = let i = instructionAt program (48 * x .pc) in either (sameTuple (pushed i x) σ) (pushes i) 0
 
 -- the rules of the rows that are carried are the row's
 same-rules : (program memory exec : List ℕ) (r : ℕ) (x y : Exec)
@@ -55,27 +54,28 @@ module _ (program memory exec : List ℕ) (r : ℕ) (none : execFailing (given p
   unfolding execRules
   pc-inside = ltb-true (execAt exec (32 * r) .pc) (length program / 48) (is-true _ (rules-hold .0))
 
--- one row more, and the pulls that it pushes
-row-more : (program exec ext : List ℕ) (r k s : ℕ) (x : Exec)
+-- one row more, and what it pushes
+row-more : (program exec ext lo hi : List ℕ) (r s : ℕ) (x : Exec)
     → x ≡ execAt exec (32 * r)
-    → PullsTimes ext (pushed (instructionAt program (48 * x .pc)) x) (pushes (instructionAt program (48 * x .pc))) k s
-    → InOrder program exec ext r k → InOrder program exec ext (r + 1) s
-row-more program exec ext r k s x is more same σ =
-    let read = subst (λ (z : Exec). PullsTimes ext (pushed (instructionAt program (48 * z .pc)) z) (pushes (instructionAt program (48 * z .pc))) k s) is more σ in
-    omega (arith, one-more (pushesOf program exec σ) r, same σ, read)
+    → Settles ext lo hi s (λ σ. pushedTo (given program []) (tables exec ext) σ r + pushedBy program x σ)
+    → Settles ext lo hi s (λ σ. pushedTo (given program []) (tables exec ext) σ (r + 1))
+row-more program exec ext lo hi r s x is settles =
+    sent-as settles _ (λ σ. one-more (λ q. pushedBy program (execAt exec (32 * q)) σ) r
+    ∙ ap (λ (z : Exec). pushedTo (given program []) (tables exec ext) σ r + pushedBy program z σ) (sym is))
 
 abbrev Inv-loop : tie.InvT-loop
-Inv-loop program memory exec ext n words₀ pulled₀ r₀ words pulled r =
+Inv-loop program memory exec ext n lo₀ hi₀ words₀ pulled₀ r₀ lo hi words pulled r =
     (n ≡ length exec / 32)
     × Walk (λ s. zero? (execFailing (given program memory) (tables exec []) s)) (length exec / 32) (firstExec (given program memory) (tables exec [])) r
     × (words ≡ true → Walk (isWord exec) (length exec / 4) (firstWord exec) (8 * r))
-    × (WellFormed program → pulled ≤ length ext / 120 → InOrder program exec ext r pulled)
+    × (WellFormed program → Settles ext lo hi pulled (λ σ. pushedTo (given program []) (tables exec ext) σ r))
 
 abbrev μ-loop : tie.MeasureT-loop
-μ-loop program memory exec ext n words₀ pulled₀ r₀ words pulled r = n - r
+μ-loop program memory exec ext n lo₀ hi₀ words₀ pulled₀ r₀ lo hi words pulled r = n - r
 
 loop-holds : tie.Need-loop-holds Inv-loop μ-loop
-loop-holds c = (refl, begins _ _, λ _. begins _ _, λ well h σ. refl)
+loop-holds c =
+    (refl, begins _ _, (λ _. begins _ _), λ well. none-sent _ _ (length-replicate {A = ℕ} 17203 0) (λ s h. getD-replicate 17203 s 0 0 h))
 
 returns : tie.Need-returns Inv-loop μ-loop
 returns c = (
@@ -87,13 +87,14 @@ returns c = (
 
 add-r : tie.Need-add-r Inv-loop μ-loop
 add-r c =
-    let inside = c .before .before .before .before .before .before .before .loop-test .taken in
-    let args = c .before .before .before .before .before .before .before .before .before .before .before .before .before in
+    let inside = c .before .before .before .before .before .before .before .before .before .loop-test .taken in
+    let args = c .before .before .before .before .before .before .before .before .before .before .before .before .before .before .before in
     omega (arith, inside, args .good)
 
 loop-again : tie.Need-loop-again Inv-loop μ-loop
 loop-again c =
-    let tried = c .before .before in
+    let tried = c .before .before .before .before in
+    let seen = c .before .before .before .are-words in
     let held = tried .before .exec-pair-holds in
     let second = tried .before .before .exec-at2 in
     let after = tried .before .before .before .next-row in
@@ -109,28 +110,28 @@ loop-again c =
       refl,
       goes-past (loop .inv .1) (omega (arith, inside)) (eq-eqb _ _ passes),
       (λ e.
-          let both = each (loop .words) (c .before .are-words .result ∷ []) e in
+          let both = each (loop .words) (seen .result ∷ []) e in
           let next : 8 * (loop .r + 1) ≡ 8 * loop .r + 8 = omega arith in
-          rw next (goes-past-all (loop .inv .2 (both .0)) 8 (omega (arith, inside)) (eight exec (8 * loop .r) (eight-seen exec (8 * loop .r) (sym (c .before .are-words .ensures) ∙ both .1))))),
-      λ well h.
-          let more = c .after-row .ensures well fetched h in
-          row-more (args .program .now) exec (args .ext .now) (loop .r) (loop .pulled) (c .after-row .result) (first .result) (first .ensures) (more .1) (loop .inv .3 well (more .0)),
+          rw next (goes-past-all (loop .inv .2 (both .0)) 8 (omega (arith, inside)) (eight exec (8 * loop .r) (eight-seen exec (8 * loop .r) (sym (seen .ensures) ∙ both .1))))),
+      λ well.
+          row-more (args .program .now) exec (args .ext .now) _ _ (loop .r) (c .after-row .result) (first .result) (first .ensures)
+          (c .after-row .ensures well fetched _ (loop .inv .3 well)),
     )
 
 returns-2 : tie.Need-returns-2 Inv-loop μ-loop
 returns-2 c =
-    let loop = c .before .loop in
-    let exec = c .before .before .before .before .before .before .args .exec .now in
-    let program = c .before .before .before .before .before .before .args .program .now in
-    let ext = c .before .before .before .before .before .before .args .ext .now in (
-      finds-none (loop .inv .1) (c .loop-test .left),
+    let ended = c .before .before .before .loop-test .left in
+    let loop = c .before .before .before .before .loop in
+    let args = c .before .before .before .before .before .before .before .before .before .args in
+    let exec = args .exec .now in (
+      finds-none (loop .inv .1) ended,
       (λ e.
           let both = each (loop .words) (eqb (8 * (length exec / 32)) (length exec / 4) ∷ []) e in
-          let ended = eqb-true (8 * (length exec / 32)) (length exec / 4) (both .1) in
+          let whole = eqb-true (8 * (length exec / 32)) (length exec / 4) (both .1) in
           sym (finds-none (loop .inv .2 (both .0)) (omega arith)) ∙ omega arith),
       λ h well few.
           let all : loop .r ≡ length exec / 32 = omega arith in
-          subst (λ (n : ℕ). InOrder program exec ext n (loop .pulled)) all (loop .inv .3 well few),
+          subst (λ (n : ℕ). InOrder (args .program .now) exec (args .ext .now) n (c .settled .result)) all (c .settled .ensures _ (loop .inv .3 well) few),
     )
 
 pub exec-walk-spec : {M : Type 1} → statement M
@@ -153,4 +154,5 @@ exec-walk-spec =
     (λ c. search needs)
     loop-again
     (λ c. search needs)
+    (λ c κs. search needs)
     returns-2)

@@ -2,7 +2,6 @@
 use mathlib.Core.Bool.{false≢true}
 use mathlib.Core.Path.{sym, _∙_}
 use native.Mathlib.Omega.{arith}
-use Prim.Native.Nat.{_+_, _/_, _%_}
 use Rattle.paired.proofs.Held.{pulls-nothing, pulls-other, pulls-once}
 use borrow.Author.Needs.{needs}
 use Rattle.paired.proofs.put.put_row.Statement.{statement}
@@ -19,18 +18,10 @@ returns-3 c = λ _ put. pulls-other put (λ e. c .if3 .taken (c .before .class-o
 
 returns-4 : tie.Need-returns-4
 returns-4 c =
-    let start = c .before .before .before .before .before .before .before .before .before .before .before .before .before in
-    let pull-times = c .before .before .before .before .before .before .before .before .before .before .before .pull-times in
-    let if2 = c .before .before .before .before .before .before .before .before .before .if2 in
-    let empty-from = c .before .before .empty-from in
-    let x = c .low-of .result + start .args .k + 1 in
-    let inside = c .before .if4 .taken in
-    λ _ put.
-    pulls-once put (empty-from .result) (x % 65536) (x / 65536) (sym (if2 .left) ∙ pull-times .ensures (omega arith)) (c .low-of .ensures) (omega arith)
-    (omega arith) inside (empty-from .ensures inside)
-
-returns-5 : tie.Need-returns-5
-returns-5 c = λ e. absurd (false≢true e)
+    let start = c .before .before .before .before .before .before .before .before .before .before in
+    let pull-times = c .before .before .before .before .before .before .before .before .pull-times in
+    let if2 = c .before .before .before .before .before .before .if2 in
+    λ e put. pulls-once put (sym (if2 .left) ∙ pull-times .ensures (omega arith)) (c .put-slot .ensures e (start .args .ext .now) (put .size))
 
 pub put-row-spec : {M : Type 1} → statement M
 put-row-spec =
@@ -44,15 +35,4 @@ put-row-spec =
     (λ c κs. search needs)
     returns-3
     (λ c κs. search needs)
-    (λ c κs. search needs)
-    (λ c κs. search needs)
-    (λ c. search needs)
-    (λ c. search needs)
-    (λ c. search needs)
-    (λ c. search needs)
-    (λ c. search needs)
-    (λ c. search needs)
-    (λ c. search needs)
-    (λ c. search needs)
-    returns-4
-    returns-5)
+    returns-4)

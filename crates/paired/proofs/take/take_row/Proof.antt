@@ -18,16 +18,10 @@ returns-3 c = λ _ taken. pushes-other taken (λ e. c .if3 .taken (c .before .cl
 
 returns-4 : tie.Need-returns-4
 returns-4 c =
-    let push-times = c .before .before .before .before .before .before .before .before .before .before .before .push-times in
-    let if2 = c .before .before .before .before .before .before .before .before .before .if2 in
-    let row-tuple = c .before .before .before .before .before .before .before .before .row-tuple in
-    let waiting-from = c .before .waiting-from in
-    λ _ taken.
-    pushes-once taken (waiting-from .result) (sym (if2 .left) ∙ push-times .ensures (omega arith)) (c .if4 .taken)
-    (rw (row-tuple .ensures) at (waiting-from .ensures (c .if4 .taken)))
-
-returns-5 : tie.Need-returns-5
-returns-5 c = λ e. absurd (false≢true e)
+    let push-times = c .before .before .before .before .before .before .before .before .push-times in
+    let if2 = c .before .before .before .before .before .before .if2 in
+    let row-tuple = c .before .before .before .before .before .row-tuple in
+    λ e taken. pushes-once taken (sym (if2 .left) ∙ push-times .ensures (omega arith)) (rw (row-tuple .ensures) at (c .take-slot .ensures e (taken .size)))
 
 pub take-row-spec : {M : Type 1} → statement M
 take-row-spec =
@@ -40,10 +34,4 @@ take-row-spec =
     (λ c κs. search needs)
     returns-3
     (λ c κs. search needs)
-    (λ c κs. search needs)
-    (λ c κs. search needs)
-    (λ c. search needs)
-    (λ c. search needs)
-    (λ c. search needs)
-    returns-4
-    returns-5)
+    returns-4)

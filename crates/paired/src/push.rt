@@ -1,0 +1,116 @@
+// Pushes settled as they come: in order as long as each is the next pull. From the first that isn't, the pulls that are left wait in slots,
+// and each push takes one of its tuple.
+use crate::Sent;
+use crate::order::after_pull;
+use crate::put::put_slot;
+use crate::slot::none_waits;
+use crate::take::take_slot;
+use crate::times::pull_times;
+use crate::tuple::tuple_at;
+ghost use mathlib.Core.Path.{_≡_};
+ghost use mathlib.Core.Bool.{true};
+ghost use mathlib.Core.List.{[]};
+ghost use lib.ListN.{length};
+ghost use Prim.Native.Nat.{ℕ, _+_, _/_, _<_, _≤_};
+ghost use Rattle.rules.specs.Given.{either};
+ghost use Rattle.rules.specs.Bus.{Tuple, sameTuple, pulledTo};
+ghost use Rattle.rules.specs.Sizes.{tables};
+ghost use Rattle.paired.specs.Slots.{tupleOf};
+ghost use Rattle.paired.specs.Order.{InSlots, Settles};
+
+// Puts extension row k, if it pulls. False where it pulls more than once, or no slot is found.
+fn put_pull(ext: &[u8], lo: &mut [u16; 17203], hi: &mut [u8; 17203], k: usize) -> bool
+    requires { ⌜ (length (now ext) / 120 ≤ 65536) × (k < length (now ext) / 120) ⌝ }
+    ensures { λ r. ⌜ (r ≡ true → (sent : Tuple → ℕ)
+        → InSlots (now (ext .entry)) (now (lo .entry)) (now (hi .entry)) k sent
+        → InSlots (now (ext .entry)) (now (lo .exit)) (now (hi .exit)) (k + 1) sent) ⌝ }
+{
+    let times = pull_times(ext, k);
+    if times == 0 {
+        return true;
+    }
+    if times != 1 {
+        return false;
+    }
+    put_slot(lo, hi, 131072, tuple_at(ext, 120 * k), k)
+}
+
+// Puts the pulls from a row on. A table whose rows leave few bits to a tag is left to rounds.
+fn put_from(ext: &[u8], lo: &mut [u16; 17203], hi: &mut [u8; 17203], from: usize) -> bool
+    requires { ⌜ from ≤ length (now ext) / 120 ⌝ }
+    ensures { λ r. ⌜ (r ≡ true → (sent : Tuple → ℕ)
+        → InSlots (now (ext .entry)) (now (lo .entry)) (now (hi .entry)) from sent
+        → InSlots (now (ext .entry)) (now (lo .exit)) (now (hi .exit)) (length (now (ext .entry)) / 120) sent) ⌝ }
+{
+    let n = ext.len() / 120;
+    if 65536 < n {
+        return false;
+    }
+    let mut k = from;
+    while k < n {
+        if !put_pull(ext, lo, hi, k) {
+            return false;
+        }
+        k += 1;
+    }
+    true
+}
+
+// What after_push returns once pulls are in slots.
+fn after_take(ext: &[u8], lo: &mut [u16; 17203], hi: &mut [u8; 17203], t: Sent) -> usize
+    ensures { λ s. ⌜ ((sent : Tuple → ℕ)
+        → InSlots (now (ext .entry)) (now (lo .entry)) (now (hi .entry)) (length (now (ext .entry)) / 120) sent
+        → Settles (now (ext .entry)) (now (lo .exit)) (now (hi .exit)) s (λ σ. sent σ + either (sameTuple (tupleOf t) σ) 1 0)) ⌝ }
+{
+    let n = ext.len() / 120;
+    if take_slot(ext, lo, hi, 131072, t) {
+        return n + 1;
+    }
+    n + 2
+}
+
+// Settles a push of t. With n extension rows, k up to n is the row after the last pull that was pushed, all in order; k = n + 1 says that
+// slots are used, and any greater k that a push found no pull.
+pub fn after_push(
+    ext: &[u8],
+    lo: &mut [u16; 17203],
+    hi: &mut [u8; 17203],
+    k: usize,
+    t: Sent,
+) -> usize
+    ensures { λ s. ⌜ ((sent : Tuple → ℕ)
+        → Settles (now (ext .entry)) (now (lo .entry)) (now (hi .entry)) k sent
+        → Settles (now (ext .entry)) (now (lo .exit)) (now (hi .exit)) s (λ σ. sent σ + either (sameTuple (tupleOf t) σ) 1 0)) ⌝ }
+{
+    let n = ext.len() / 120;
+    if n + 1 < k {
+        return k;
+    }
+    if n < k {
+        return after_take(ext, lo, hi, t);
+    }
+    let s = after_pull(ext, k, t);
+    if s <= n {
+        return s;
+    }
+    if !put_from(ext, lo, hi, k) {
+        return n + 2;
+    }
+    after_take(ext, lo, hi, t)
+}
+
+// After the last push: n where the slots that were used are all taken, so that all rows are pulled.
+pub fn settled(ext: &[u8], lo: &[u16; 17203], hi: &[u8; 17203], k: usize) -> usize
+    ensures { λ s. ⌜ ((sent : Tuple → ℕ)
+        → Settles (now (ext .entry)) (now (lo .entry)) (now (hi .entry)) k sent → s ≤ length (now (ext .entry)) / 120
+        → (σ : Tuple) → sent σ ≡ pulledTo (tables [] (now (ext .entry))) σ s) ⌝ }
+{
+    let n = ext.len() / 120;
+    if k != n + 1 {
+        return k;
+    }
+    if none_waits(lo, hi) {
+        return n;
+    }
+    k
+}
