@@ -10,7 +10,7 @@ use Rattle.rules.specs.Bus.{pushes, pulls, instructionOf, total, balanced}
 use Rattle.judged.specs.First.{first}
 use Rattle.judged.specs.Judged.{pushBalanced, pullBalanced, firstPush, firstPull}
 use Rattle.judged.proofs.FirstLaws.{first-before, first-fails, first-found, first-none}
-use Rattle.paired.proofs.Totals.{total-same}
+use Rattle.tuples.proofs.Totals.{total-same}
 use Rattle.judge.specs.declared.Tally.{Tally}
 use Rattle.judge.specs.Senders.{Sending, pushSent, pullSent, sendingOf, equalAt, Reads}
 

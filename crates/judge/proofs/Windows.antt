@@ -11,8 +11,8 @@ use lib.Dec.{eqb}
 use borrow.Author.Tests.{eqb-true, eqb-false, eq-eqb, ne-eqb}
 use Rattle.rules.specs.Given.{Given, Tables, either}
 use Rattle.rules.specs.Bus.{Tuple, sameTuple, pushed, pushes, pulled, pulls, instructionOf, pushedTo, pulledTo, balanced}
-use Rattle.paired.proofs.Tuples.{same-tuple}
-use Rattle.paired.proofs.Totals.{one-more, counts-none}
+use Rattle.tuples.proofs.Tuples.{same-tuple}
+use Rattle.tuples.proofs.Totals.{one-more, counts-none}
 use Rattle.judge.specs.declared.Tally.{Tally}
 use Rattle.judge.specs.Senders.{Sending, sendingOf, Reads}
 use Rattle.judge.specs.Window.{tupleAt, stepped, descended, placeOf, slotOf, plusTo, minusTo, Count, Counted}

@@ -6,7 +6,7 @@ use lib.Dec.{ltb}
 use Rattle.rules.specs.Given.{Given, Tables, zero?}
 use Rattle.rules.specs.Bus.{Tuple, pushed, pushes, pulled, pulls, instructionOf, balanced}
 use Rattle.judged.specs.First.{first}
-use Rattle.paired.specs.Slots.{tupleOf}
+use Rattle.tuples.specs.Sent.{tupleOf}
 use Rattle.judge.specs.declared.Tally.{Tally}
 use Rattle.judge.specs.declared.Looked.{Looked}
 

@@ -7,7 +7,7 @@ use Rattle.answer.specs.declared.Answer.{Answer}
 use Rattle.rules.specs.Sizes.{given, tables}
 use Rattle.judged.specs.Judged.{words, instructions, start, execution, extension, bus, firstMalformed, firstExec, firstExt}
 use Rattle.parts.specs.Words.{WellFormed}
-use Rattle.paired.specs.Order.{InOrder}
+use Rattle.tuples.specs.Order.{InOrder}
 use Rattle.judge.specs.declared.Seen.{Seen}
 
 -- a length that leaves every place in 32 bits, as each that fits does

@@ -2,15 +2,15 @@
 // rounds settle those in any other order. What is left, as every refusal is, is counted.
 use crate::window::first_unequal;
 use answer::Answer;
-use paired::next_pull;
 use paired::pairs_up;
+use tuples::next_pull;
 ghost use mathlib.Core.Path.{_≡_};
 ghost use mathlib.Core.List.{[]};
 ghost use Prim.Native.Nat.{_/_, _≤_};
 ghost use lib.ListN.{length};
 ghost use Rattle.judged.specs.Judged.{bus};
 ghost use Rattle.rules.specs.Sizes.{given, tables};
-ghost use Rattle.paired.specs.Order.{InOrder};
+ghost use Rattle.tuples.specs.Order.{InOrder};
 ghost use Rattle.judge.specs.Stages.{Short};
 ghost use Rattle.judge.specs.Bus.{Formed, Flagged};
 

@@ -4,7 +4,7 @@ use crate::seek::place;
 use crate::seek::seek;
 use crate::seek::upper_of;
 use crate::sender::sender;
-use paired::Sent;
+use tuples::Sent;
 ghost use mathlib.Core.List.{[]};
 ghost use Prim.Native.Nat.{_+_, _/_, _<_, _≤_};
 ghost use lib.ListN.{length};

@@ -8,9 +8,9 @@ mod tuple;
 mod window;
 
 use answer::Answer;
-use paired::Sent;
 use parts::bad_part;
 use stage::words_answer;
+use tuples::Sent;
 ghost use mathlib.Core.Path.{_≡_};
 ghost use Rattle.judged.specs.Judged.{judgeOf};
 

@@ -1,13 +1,13 @@
 // Where a window of 1024 slots holds a tuple. A slot is a number of `upper` and one of `lower`; slots 1 to 1023 are kept sorted, and those
 // not used are above every tuple. Nothing is proved of the order: a slot that is found holds the tuple, and the same tuple is always
 // found in the same slot, which is all that counting needs.
-use paired::Sent;
-use paired::same;
+use tuples::Sent;
+use tuples::same;
 use word::wide;
 ghost use mathlib.Core.Path.{_≡_};
 ghost use Prim.Native.Nat.{_+_, _*_, _/_, _%_, _<_, _≤_};
 ghost use Rattle.rules.specs.Bus.{sameTuple};
-ghost use Rattle.paired.specs.Slots.{tupleOf};
+ghost use Rattle.tuples.specs.Sent.{tupleOf};
 ghost use Rattle.judge.specs.Window.{tupleAt, atMost, stepped, placeOf, slotOf};
 
 // Two words in a number.

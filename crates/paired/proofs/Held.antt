@@ -15,9 +15,9 @@ use Rattle.rules.specs.Bus.{Tuple, sameTuple, total, pushed, pushes, pulled, pu
 use Rattle.rules.specs.Sizes.{given, tables}
 use Rattle.form.proofs.Cases.{each}
 use Rattle.paired.specs.Slots.{classOf, live, slotAt, waiting, heldTo, Tagged, Sized, OneMore, OneLess, Put, Taken}
-use Rattle.paired.proofs.Tuples.{same-tuple}
-use Rattle.paired.proofs.Totals.{one-more, counts-none, total-zero, total-set}
-use Rattle.paired.proofs.Pulling.{pulls-none, pulls-one}
+use Rattle.tuples.proofs.Tuples.{same-tuple}
+use Rattle.tuples.proofs.Totals.{one-more, counts-none, total-zero, total-set}
+use Rattle.tuples.proofs.Pulling.{pulls-none, pulls-one}
 
 -- no row waits where no slot is live
 dead : (ext : List ℕ) (span : ℕ) (σ : Tuple) (x : ℕ) → live x ≡ false → either (waiting ext span σ x) 1 0 ≡ 0

@@ -11,8 +11,9 @@ use Rattle.rules.specs.Given.{either}
 use Rattle.rules.specs.Bus.{Tuple, sameTuple, pulled, pulls, pulledTo}
 use Rattle.rules.specs.Sizes.{tables}
 use Rattle.paired.specs.Slots.{live, slotAt, OneMore, OneLess}
-use Rattle.paired.specs.Order.{PullsOnce, InSlots, Settles}
-use Rattle.paired.proofs.Pulling.{pulls-none, pulls-one}
+use Rattle.tuples.specs.Order.{PullsOnce}
+use Rattle.paired.specs.Settles.{InSlots, Settles}
+use Rattle.tuples.proofs.Pulling.{pulls-none, pulls-one}
 use Rattle.paired.proofs.Held.{none-held}
 
 -- before the first push

@@ -1,3 +1,2 @@
 pub mod Slots
-pub mod Order
-pub mod Times
+pub mod Settles

@@ -11,11 +11,6 @@ use Rattle.rows.specs.Rows.{extAt}
 use Rattle.rules.specs.Given.{either}
 use Rattle.rules.specs.Bus.{Tuple, sameTuple, pulled, total, pushedTo, pulledTo}
 use Rattle.rules.specs.Sizes.{given, tables}
-use Rattle.paired.specs.declared.Sent.{Sent}
-
--- the code's tuple
-abbrev pub tupleOf : Sent → Tuple
-tupleOf s = record { aux = s .aux; left = s .left; right = s .right; out = s .out }
 
 -- any function of the tuple would do
 unfoldable pub hashOf : Tuple → ℕ

@@ -1,10 +1,11 @@
 // Where a tuple goes: its class is its round's, its slot the first that is tried, its tag spares it the rows of
 // most others. All that is proved of them is that the class is the tuple's alone.
-use crate::Sent;
+use tuples::Sent;
 use word::wide;
 ghost use mathlib.Core.Path.{_≡_};
 ghost use Prim.Native.Nat.{_<_};
-ghost use Rattle.paired.specs.Slots.{tupleOf, hashOf, classOf, Span, Tagged};
+ghost use Rattle.tuples.specs.Sent.{tupleOf};
+ghost use Rattle.paired.specs.Slots.{hashOf, classOf, Span, Tagged};
 
 // Odd numbers below 2^30, so that the sum fits 64 bits.
 fn hash(t: Sent) -> u64

@@ -1,15 +1,11 @@
 // The bus of tables whose groups stand in any order: pushes are settled as a walk comes to them, in order or with the pulls in slots. Where there are
 // too many pulls for that, it is settled in rounds: in each the pulls of one class of tuples are put, and every push of that class takes one of its tuple.
 mod hash;
-mod order;
 mod push;
 mod put;
 mod slot;
 mod take;
-mod times;
-mod tuple;
 
-pub use order::next_pull;
 pub use push::after_push;
 pub use push::settled;
 use put::put_rows;
@@ -17,9 +13,6 @@ use put::starts;
 use slot::none_waits;
 use slot::span_of;
 use take::take_rows;
-pub use tuple::pulled_tuple;
-pub use tuple::pushed_tuple;
-pub use tuple::same;
 ghost use mathlib.Core.Path.{_≡_};
 ghost use mathlib.Core.Bool.{true};
 ghost use mathlib.Core.List.{[]};
@@ -28,14 +21,6 @@ ghost use lib.ListN.{length};
 ghost use Rattle.rules.specs.Bus.{Tuple, pushedTo, pulledTo};
 ghost use Rattle.rules.specs.Sizes.{given, tables};
 ghost use Rattle.paired.specs.Slots.{classOf, Room};
-
-// A tuple that a row pushes or pulls on the bus.
-pub struct Sent {
-    pub aux: u32,
-    pub left: u32,
-    pub right: u32,
-    pub out: u32,
-}
 
 // Whether the pushes of a class of tuples take all its pulls. A slot has 24 bits, so that the slots of a round stay near the processor: 0 where
 // it is empty, a tag and k + 1 where extension row k waits, and 2^24 - 1 where a push took it.

@@ -1,12 +1,12 @@
 // Pushes settled as they come: in order as long as each is the next pull. From the first that isn't, the pulls that are left wait in slots,
 // and each push takes one of its tuple.
-use crate::Sent;
-use crate::order::after_pull;
 use crate::put::put_slot;
 use crate::slot::none_waits;
 use crate::take::take_slot;
-use crate::times::pull_times;
-use crate::tuple::tuple_at;
+use tuples::Sent;
+use tuples::after_pull;
+use tuples::pull_times;
+use tuples::tuple_at;
 ghost use mathlib.Core.Path.{_≡_};
 ghost use mathlib.Core.Bool.{true};
 ghost use mathlib.Core.List.{[]};
@@ -15,8 +15,8 @@ ghost use Prim.Native.Nat.{ℕ, _+_, _/_, _<_, _≤_};
 ghost use Rattle.rules.specs.Given.{either};
 ghost use Rattle.rules.specs.Bus.{Tuple, sameTuple, pulledTo};
 ghost use Rattle.rules.specs.Sizes.{tables};
-ghost use Rattle.paired.specs.Slots.{tupleOf};
-ghost use Rattle.paired.specs.Order.{InSlots, Settles};
+ghost use Rattle.tuples.specs.Sent.{tupleOf};
+ghost use Rattle.paired.specs.Settles.{InSlots, Settles};
 
 // Puts extension row k, if it pulls. False where it pulls more than once, or no slot is found.
 fn put_pull(ext: &[u8], lo: &mut [u16; 17203], hi: &mut [u8; 17203], k: usize) -> bool

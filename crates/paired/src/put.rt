@@ -1,11 +1,11 @@
 // Pulls are put into slots: one, and all those of a class.
-use crate::Sent;
 use crate::hash::class_of;
 use crate::hash::low_of;
 use crate::hash::slot_of;
 use crate::slot::empty_from;
-use crate::times::pull_times;
-use crate::tuple::tuple_at;
+use tuples::Sent;
+use tuples::pull_times;
+use tuples::tuple_at;
 use word::word_at;
 ghost use mathlib.Core.Path.{_≡_};
 ghost use mathlib.Core.Bool.{true};

@@ -1,12 +1,13 @@
 // Slots are tried one after another from a tuple's own on, at most 2048 of them.
-use crate::Sent;
-use crate::tuple::same;
-use crate::tuple::tuple_at;
+use tuples::Sent;
+use tuples::same;
+use tuples::tuple_at;
 ghost use mathlib.Core.Path.{_≡_};
 ghost use mathlib.Core.Bool.{true, false};
 ghost use lib.ListN.{length};
 ghost use Prim.Native.Nat.{ℕ, _+_, _*_, _<_, _≤_};
-ghost use Rattle.paired.specs.Slots.{tupleOf, slotAt, live, waiting, Room, Tagged};
+ghost use Rattle.tuples.specs.Sent.{tupleOf};
+ghost use Rattle.paired.specs.Slots.{slotAt, live, waiting, Room, Tagged};
 
 // How many numbers a tag has: more than the table has rows. A short table leaves more bits to the tag.
 pub fn span_of(ext: &[u8]) -> u32

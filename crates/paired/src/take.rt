@@ -1,13 +1,13 @@
 // Pushes take what waits in the slots: one, and all those of a class.
-use crate::Sent;
 use crate::hash::class_of;
 use crate::hash::low_of;
 use crate::hash::slot_of;
 use crate::slot::waiting_from;
-use crate::times::push_times;
-use crate::tuple::pushed_tuple;
 use form::instruction_at;
 use rows::exec_row;
+use tuples::Sent;
+use tuples::push_times;
+use tuples::pushed_tuple;
 ghost use mathlib.Core.Path.{_≡_};
 ghost use mathlib.Core.Bool.{true};
 ghost use mathlib.Core.List.{[]};
@@ -16,7 +16,8 @@ ghost use Prim.Native.Nat.{_+_, _*_, _/_, _<_};
 ghost use Rattle.rows.specs.Rows.{execAt};
 ghost use Rattle.rules.specs.Bus.{pushed, instructionOf};
 ghost use Rattle.rules.specs.Sizes.{given, tables};
-ghost use Rattle.paired.specs.Slots.{tupleOf, Span, Sized, OneLess, Taken};
+ghost use Rattle.tuples.specs.Sent.{tupleOf};
+ghost use Rattle.paired.specs.Slots.{Span, Sized, OneLess, Taken};
 
 // The tuple of execution row r.
 fn row_tuple(program: &[u8], exec: &[u8], r: usize) -> Sent

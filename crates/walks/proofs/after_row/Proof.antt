@@ -7,8 +7,8 @@ use Rattle.form.specs.Instruction.{instructionAt}
 use Rattle.form.proofs.Part.{instruction-lent}
 use Rattle.rules.specs.Given.{either}
 use Rattle.rules.specs.Bus.{sameTuple, pushed, pushes}
-use Rattle.paired.proofs.Totals.{counts-none}
-use Rattle.paired.proofs.Pushing.{pushes-one, pushes-none}
+use Rattle.tuples.proofs.Totals.{counts-none}
+use Rattle.tuples.proofs.Pushing.{pushes-one, pushes-none}
 use Rattle.paired.proofs.Settling.{sent-as}
 use Rattle.walks.proofs.after_row.Statement.{statement}
 use Rattle.walks.proofs.after_row.Tie as tie

@@ -25,8 +25,9 @@ use Rattle.judged.proofs.Cases.{is-true}
 use Rattle.judged.proofs.RuleLaws.{failing-holds, exec-numbered}
 use Rattle.parts.specs.Words.{WellFormed}
 use Rattle.parts.proofs.Eights.{eight, eight-seen}
-use Rattle.paired.specs.Order.{InOrder, Settles}
-use Rattle.paired.proofs.Totals.{one-more}
+use Rattle.tuples.specs.Order.{InOrder}
+use Rattle.paired.specs.Settles.{Settles}
+use Rattle.tuples.proofs.Totals.{one-more}
 use Rattle.paired.proofs.Settling.{none-sent, sent-as}
 use Rattle.rules.specs.Sizes.{given, tables}
 use Rattle.parts.proofs.Walks.{Walk, begins, goes-past, goes-past-all, finds, finds-none}

@@ -4,7 +4,7 @@ use mathlib.Core.Path.{sym, subst}
 use Prim.Native.Nat.{_<_}
 use lib.ListN.{set}
 use native.Mathlib.Omega.{arith}
-use Rattle.paired.specs.Slots.{tupleOf}
+use Rattle.tuples.specs.Sent.{tupleOf}
 use Rattle.judge.specs.Window.{slotOf}
 use Rattle.judge.proofs.Windows.{slot-first, slot-given}
 use Rattle.judge.proofs.choose.choose.Statement.{statement}

@@ -2,7 +2,7 @@
 use borrow.Author.Needs.{needs}
 use mathlib.Core.Path.{ap, _∙_}
 use Rattle.rules.specs.Bus.{sameTuple}
-use Rattle.paired.specs.Slots.{tupleOf}
+use Rattle.tuples.specs.Sent.{tupleOf}
 use Rattle.judge.proofs.seek.holds.Statement.{statement}
 use Rattle.judge.proofs.seek.holds.Tie as tie
 

@@ -3,7 +3,7 @@ use borrow.Author.Needs.{needs}
 use mathlib.Core.Path.{refl, sym, _∙_}
 use mathlib.Core.Bool.{true, false}
 use Rattle.rules.specs.Bus.{sameTuple}
-use Rattle.paired.specs.Slots.{tupleOf}
+use Rattle.tuples.specs.Sent.{tupleOf}
 use Rattle.judge.specs.Window.{tupleAt, placeOf}
 use Rattle.judge.proofs.Windows.{slot-is}
 use Rattle.judge.proofs.seek.seek.Statement.{statement}

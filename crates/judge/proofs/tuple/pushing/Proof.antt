@@ -4,7 +4,7 @@ use mathlib.Core.List.{[]}
 use Rattle.rows.specs.Rows.{execAt}
 use Rattle.rules.specs.Bus.{instructionOf}
 use Rattle.rules.specs.Sizes.{given, tables}
-use Rattle.paired.proofs.Pushing.{pushes-by}
+use Rattle.tuples.proofs.Pushing.{pushes-by}
 use Rattle.judge.proofs.tuple.pushing.Statement.{statement}
 use Rattle.judge.proofs.tuple.pushing.Tie as tie
 

@@ -7,7 +7,7 @@ use Prim.Native.Nat.{ℕ, _-_, _/_, _≤_}
 use borrow.Author.Needs.{needs}
 use borrow.Author.Tests.{not-false}
 use Rattle.rules.specs.Bus.{Tuple}
-use Rattle.paired.specs.Order.{InSlots}
+use Rattle.paired.specs.Settles.{InSlots}
 use Rattle.paired.proofs.push.put_from.Statement.{statement}
 use Rattle.paired.proofs.push.put_from.Tie as tie
 

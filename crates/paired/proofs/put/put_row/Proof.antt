@@ -14,7 +14,10 @@ returns-2 : tie.Need-returns-2
 returns-2 c = λ e. absurd (false≢true e)
 
 returns-3 : tie.Need-returns-3
-returns-3 c = λ _ put. pulls-other put (λ e. c .if3 .taken (c .before .class-of .ensures ∙ rw (c .before .before .tuple-at .ensures) e))
+returns-3 c =
+    let start = c .before .before .before .before .before .before .before in
+    let read = c .before .before .tuple-at .ensures (omega (arith, start .pre .1, start .good)) in
+    λ _ put. pulls-other put (λ e. c .if3 .taken (c .before .class-of .ensures ∙ rw read e))
 
 returns-4 : tie.Need-returns-4
 returns-4 c =

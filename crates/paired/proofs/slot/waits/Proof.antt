@@ -4,7 +4,8 @@ use mathlib.Core.Bool.{false≢true}
 use mathlib.Core.Path.{_≡_, sym, ap, _∙_}
 use Prim.Native.Nat.{_+_, _-_}
 use Rattle.rules.specs.Bus.{sameTuple}
-use Rattle.paired.specs.Slots.{tupleOf, waiting}
+use Rattle.tuples.specs.Sent.{tupleOf}
+use Rattle.paired.specs.Slots.{waiting}
 use Rattle.paired.proofs.Held.{waits-as}
 use borrow.Author.Needs.{needs}
 use Rattle.paired.proofs.slot.waits.Statement.{statement}
@@ -23,7 +24,7 @@ returns-3 c =
     let above : start .args .x ≡ start .args .low + row + 1 = omega arith in
     let found = waits-as (start .args .ext .now) (tupleOf (start .args .t)) row (start .pre) (omega arith) in
     λ e.
-    ap (waiting _ _ _) above ∙ found ∙ ap (λ ρ. sameTuple ρ (tupleOf (start .args .t))) (sym (c .before .tuple-at .ensures)) ∙ sym (c .same .ensures) ∙ e
+    ap (waiting _ _ _) above ∙ found ∙ ap (λ ρ. sameTuple ρ (tupleOf (start .args .t))) (sym (c .before .tuple-at .ensures (omega arith))) ∙ sym (c .same .ensures) ∙ e
 
 pub waits-spec : {M : Type 1} → statement M
 waits-spec =

@@ -1,0 +1,4 @@
+pub mod Tuples
+pub mod Totals
+pub mod Pulling
+pub mod Pushing

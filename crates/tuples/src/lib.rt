@@ -1,0 +1,21 @@
+// Tuples of the bus: what a row pushes or pulls, how often, and the pulls in the order in which they stand.
+mod order;
+mod times;
+mod tuple;
+
+pub use order::after_pull;
+pub use order::next_pull;
+pub use times::pull_times;
+pub use times::push_times;
+pub use tuple::pulled_tuple;
+pub use tuple::pushed_tuple;
+pub use tuple::same;
+pub use tuple::tuple_at;
+
+// A tuple that a row pushes or pulls on the bus.
+pub struct Sent {
+    pub aux: u32,
+    pub left: u32,
+    pub right: u32,
+    pub out: u32,
+}
