@@ -1,5 +1,6 @@
-// The bus of tables whose groups stand in any order: pushes are settled as a walk comes to them, in order or with the pulls in slots. Where there are
-// too many pulls for that, it is settled in rounds: in each the pulls of one class of tuples are put, and every push of that class takes one of its tuple.
+// The bus of tables whose groups stand in any order: pushes are settled as a walk comes to them, in order or with the pulls in slots. Where that is
+// given up, as there are too many, it is settled in rounds: in each the pulls of one class of tuples are put into slots, and every push of that
+// class takes one of its tuple.
 mod hash;
 mod push;
 mod put;

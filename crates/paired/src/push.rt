@@ -35,7 +35,7 @@ fn put_pull(ext: &[u8], lo: &mut [u16; 17203], hi: &mut [u8; 17203], k: usize) -
     put_slot(lo, hi, 131072, tuple_at(ext, 120 * k), k)
 }
 
-// Puts the pulls from a row on. A table whose rows leave few bits to a tag is left to rounds.
+// Puts the pulls from a row on. A table so long that its rows leave few bits to a tag is left to rounds.
 fn put_from(ext: &[u8], lo: &mut [u16; 17203], hi: &mut [u8; 17203], from: usize) -> bool
     requires { ⌜ from ≤ length (now ext) / 120 ⌝ }
     ensures { λ r. ⌜ (r ≡ true → (sent : Tuple → ℕ)
@@ -70,7 +70,7 @@ fn after_take(ext: &[u8], lo: &mut [u16; 17203], hi: &mut [u8; 17203], t: Sent) 
 }
 
 // Settles a push of t. With n extension rows, k up to n is the row after the last pull that was pushed, all in order; k = n + 1 says that
-// slots are used, and any greater k that a push found no pull.
+// slots are used, and any greater k that it was given up, as a push found no pull or a pull no slot.
 pub fn after_push(
     ext: &[u8],
     lo: &mut [u16; 17203],
