@@ -36,6 +36,22 @@ static void expect(uint32_t verdict, const char *what)
     }
 }
 
+static void put_word(uint8_t *at, uint32_t word)
+{
+    for (int k = 0; k < 4; k++)
+        at[k] = (uint8_t)(word >> 8 * k);
+}
+
+/* the second implementation's answer in 16 bytes, as the library's calls fill them */
+static uint32_t told(second_answer a)
+{
+    put_word(answer, a.verdict);
+    put_word(answer + 4, a.part);
+    put_word(answer + 8, a.place);
+    put_word(answer + 12, a.rule);
+    return a.verdict;
+}
+
 static uint32_t library_judge(job *j)
 {
     speed_input *in = j->in;
@@ -46,16 +62,14 @@ static uint32_t library_judge(job *j)
 static uint32_t second_judges(job *j)
 {
     speed_input *in = j->in;
-    return second_judge(in->program, in->program_len, in->memory, in->memory_len, 0, 0, in->exec, in->exec_len, j->ext, in->ext_len)
-        .verdict;
+    return told(second_judge(in->program, in->program_len, in->memory, in->memory_len, 0, 0, in->exec, in->exec_len, j->ext, in->ext_len));
 }
 
 static uint32_t second_sorts(job *j)
 {
     speed_input *in = j->in;
-    return second_judge_sorted(in->program, in->program_len, in->memory, in->memory_len, 0, 0, in->exec, in->exec_len, j->ext,
-                               in->ext_len)
-        .verdict;
+    return told(second_judge_sorted(in->program, in->program_len, in->memory, in->memory_len, 0, 0, in->exec, in->exec_len, j->ext,
+                                    in->ext_len));
 }
 
 static uint32_t library_table(job *j)
@@ -68,8 +82,7 @@ static uint32_t library_table(job *j)
 static uint32_t second_tables(job *j)
 {
     speed_input *in = j->in;
-    return second_table(in->program, in->program_len, in->memory, in->memory_len, 0, 0, in->exec, in->exec_len, in->ext, in->ext_len)
-        .verdict;
+    return told(second_table(in->program, in->program_len, in->memory, in->memory_len, 0, 0, in->exec, in->exec_len, in->ext, in->ext_len));
 }
 
 static uint32_t library_make(job *j)
@@ -82,7 +95,7 @@ static uint32_t second_makes(job *j)
 {
     speed_input *in = j->in;
     second_recipe r = {j->seed, j->m, j->n};
-    return second_make(r, in->program, 48 * (j->n + 1), in->memory, (size_t)4 << j->m).verdict;
+    return told(second_make(r, in->program, 48 * (j->n + 1), in->memory, (size_t)4 << j->m));
 }
 
 /* labels of every seed in turn, so that no call can be left out */
@@ -102,7 +115,12 @@ static uint32_t second_label(job *j)
 {
     second_recipe r;
     next_seed(j);
-    return second_read_label(j->text, j->text_len, &r).verdict;
+    second_answer a = second_read_label(j->text, j->text_len, &r);
+    put_word(recipe, (uint32_t)r.seed);
+    put_word(recipe + 4, (uint32_t)(r.seed >> 32));
+    put_word(recipe + 8, r.m);
+    put_word(recipe + 12, r.n);
+    return told(a);
 }
 
 static double seconds(void)
@@ -151,17 +169,18 @@ static void compare(const char *what, compared c[SIZES], int sizes, int rounds, 
             c[s].library = a < c[s].library ? a : c[s].library;
             c[s].second = b < c[s].second ? b : c[s].second;
         }
-    double each_before = 0, each_first = 0;
+    double each_before = 0, second_before = 0, each_first = 0;
     for (int s = 0; s < sizes; s++) {
-        double each = 1e9 * c[s].library / c[s].units;
+        double each = 1e9 * c[s].library / c[s].units, second_each = 1e9 * c[s].second / c[s].units;
         qsort(c[s].ratios, (size_t)rounds, sizeof(double), by_size);
-        printf("%-34s %-26s %10.3f %10.3f %7.2f", what, c[s].size, each, 1e9 * c[s].second / c[s].units, c[s].ratios[rounds / 2]);
+        printf("%-34s %-26s %10.3f %10.3f %7.2f", what, c[s].size, each, second_each, c[s].ratios[rounds / 2]);
         if (s > 0)
-            printf(" %7.2f", each / each_before);
+            printf(" %7.2f %8.2f", each / each_before, second_each / second_before);
         if (s == SIZES - 1)
             printf(" %7.2f", each / each_first);
         printf("\n");
         each_before = each;
+        second_before = second_each;
         each_first = s == 0 ? each : each_first;
     }
     fflush(stdout);
@@ -247,7 +266,7 @@ static void labels(void)
 
 int main(void)
 {
-    printf("%-34s %-26s %10s %10s %7s %7s %7s\n", "", "", "library ns", "second ns", "ratio", "growth", "in all");
+    printf("%-34s %-26s %10s %10s %7s %7s %8s %7s\n", "", "", "library ns", "second ns", "ratio", "growth", "second's", "in all");
     tables();
     makers();
     labels();
