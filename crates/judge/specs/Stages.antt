@@ -14,7 +14,7 @@ use Rattle.judge.specs.declared.Seen.{Seen}
 abbrev pub Short : List ℕ → Type 0
 Short bytes = length bytes < 2 ^ 32
 
--- what the walks over the program and both tables found: the first instruction and rows that fail, and pulls that stand in the order of the pushes
+-- what the walks over the program and both tables found: the first instruction and rows that fail, and up to where the pulls are what was pushed
 pub record Sees (program memory exec ext : List ℕ) (s : Seen) : Type 0 where
   pub malformed-is : s .malformed ≡ firstMalformed (given program [])
   pub exec-is : s .exec ≡ firstExec (given program memory) (tables exec [])

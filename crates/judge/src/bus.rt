@@ -1,5 +1,5 @@
-// 7 BUS: tables whose groups stand in execution order, as a tabler's do, are settled by the walk over the execution rows, where no pull is left;
-// rounds settle those in any other order. What is left, as every refusal is, is counted.
+// 7 BUS: where the walk over the execution rows settled every push, as in a tabler's tables, it is enough that no pull is left. Rounds settle more
+// groups than that walk has slots for. What is left, as every refusal is, is counted.
 use crate::window::first_unequal;
 use answer::Answer;
 use paired::pairs_up;

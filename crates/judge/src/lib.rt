@@ -15,7 +15,7 @@ ghost use mathlib.Core.Path.{_≡_};
 ghost use Rattle.judged.specs.Judged.{judgeOf};
 
 // What one walk over the program and each table found: the first malformed instruction, the first execution row and the first extension row that
-// fail, and the extension row after the pulls that stand in the order of the pushes.
+// fail, and the extension row up to which the pulls are just what was pushed.
 struct Seen {
     malformed: usize,
     exec: usize,
