@@ -20,6 +20,7 @@ AllWords bytes = firstWord bytes ≡ length bytes / 4
 abbrev pub WellFormed : List ℕ → Type 0
 WellFormed program = (i : ℕ) → i < length program / 48 → wellFormed (instructionAt program (48 * i)) ≡ true
 
+-- the eight words from one on are below p
 abbrev pub eightWords : List ℕ → ℕ → Bool
 eightWords bytes k =
     isWord bytes k

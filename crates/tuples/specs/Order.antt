@@ -10,6 +10,7 @@ use Rattle.rules.specs.Sizes.{given, tables}
 abbrev pub PullsOnce : List ℕ → Tuple → ℕ → ℕ → Type 0
 PullsOnce ext τ k s = (σ : Tuple) → pulledTo (tables [] ext) σ s ≡ pulledTo (tables [] ext) σ k + either (sameTuple τ σ) 1 0
 
+-- rows k to s pull nothing
 abbrev pub PullsNothing : List ℕ → ℕ → ℕ → Type 0
 PullsNothing ext k s = (σ : Tuple) → pulledTo (tables [] ext) σ s ≡ pulledTo (tables [] ext) σ k
 
