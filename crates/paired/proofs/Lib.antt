@@ -1,2 +1,3 @@
+mod Back
 pub mod Held
 pub mod Settling

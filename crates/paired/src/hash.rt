@@ -30,6 +30,13 @@ pub fn slot_of(t: Sent) -> usize
     (hash(t) % 17203) as usize
 }
 
+// How far apart the slots are that are tried for a tuple: another number for each, so that they don't crowd.
+pub fn step_of(t: Sent) -> usize
+    ensures { λ r. ⌜ r < 17203 ⌝ }
+{
+    (1 + hash(t) / 65536 % 16384) as usize
+}
+
 // Where the numbers of a tuple's tag begin. A tag is below 127 or 7, so that none of them is the number of a slot that was taken.
 pub fn low_of(t: Sent, span: u32) -> u32
     requires { ⌜ Span span ⌝ }

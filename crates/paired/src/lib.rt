@@ -2,6 +2,7 @@
 // given up, as there are too many, it is settled in rounds: in each the pulls of one class of tuples are put into slots, and every push of that
 // class takes one of its tuple.
 mod hash;
+mod hold;
 mod push;
 mod put;
 mod slot;

@@ -1,8 +1,9 @@
 // Pushes settled as they come: in order as long as each is the next pull. From the first that isn't, the pulls that are left wait in slots,
-// and each push takes one of its tuple.
+// and each push takes one of its tuple, eight at a time.
+use crate::hold::after_hold;
+use crate::hold::take_back;
 use crate::put::put_slot;
 use crate::slot::none_waits;
-use crate::take::take_slot;
 use tuples::Sent;
 use tuples::after_pull;
 use tuples::pull_times;
@@ -56,61 +57,57 @@ fn put_from(ext: &[u8], lo: &mut [u16; 17203], hi: &mut [u8; 17203], from: usize
     true
 }
 
-// What after_push returns once pulls are in slots.
-fn after_take(ext: &[u8], lo: &mut [u16; 17203], hi: &mut [u8; 17203], t: Sent) -> usize
-    ensures { λ s. ⌜ ((sent : Tuple → ℕ)
-        → InSlots (now (ext .entry)) (now (lo .entry)) (now (hi .entry)) (length (now (ext .entry)) / 120) sent
-        → Settles (now (ext .entry)) (now (lo .exit)) (now (hi .exit)) s (λ σ. sent σ + either (sameTuple (tupleOf t) σ) 1 0)) ⌝ }
-{
-    let n = ext.len() / 120;
-    if take_slot(ext, lo, hi, 131072, t) {
-        return n + 1;
-    }
-    n + 2
-}
-
-// Settles a push of t. With n extension rows, k up to n is the row after the last pull that was pushed, all in order; k = n + 1 says that
-// slots are used, and any greater k that it was given up, as a push found no pull or a pull no slot.
+// Settles a push of t. With n extension rows, k up to n is the row after the last pull that was pushed, all in order; k = n + 1 + c, for c up to 8,
+// says that slots are used and c tuples are held back; any greater k that it was given up, as a push found no pull or a pull no slot.
 pub fn after_push(
     ext: &[u8],
     lo: &mut [u16; 17203],
     hi: &mut [u8; 17203],
+    back: &mut [u32; 32],
     k: usize,
     t: Sent,
 ) -> usize
     ensures { λ s. ⌜ ((sent : Tuple → ℕ)
-        → Settles (now (ext .entry)) (now (lo .entry)) (now (hi .entry)) k sent
-        → Settles (now (ext .entry)) (now (lo .exit)) (now (hi .exit)) s (λ σ. sent σ + either (sameTuple (tupleOf t) σ) 1 0)) ⌝ }
+        → Settles (now (ext .entry)) (now (lo .entry)) (now (hi .entry)) (now (back .entry)) k sent
+        → Settles (now (ext .entry)) (now (lo .exit)) (now (hi .exit)) (now (back .exit)) s (λ σ. sent σ + either (sameTuple (tupleOf t) σ) 1 0)) ⌝ }
 {
     let n = ext.len() / 120;
-    if n + 1 < k {
-        return k;
-    }
     if n < k {
-        return after_take(ext, lo, hi, t);
+        return after_hold(ext, lo, hi, back, k, t);
     }
     let s = after_pull(ext, k, t);
     if s <= n {
         return s;
     }
     if !put_from(ext, lo, hi, k) {
-        return n + 2;
+        return n + 10;
     }
-    after_take(ext, lo, hi, t)
+    after_hold(ext, lo, hi, back, n + 1, t)
 }
 
-// After the last push: n where the slots that were used are all taken, so that all rows are pulled.
-pub fn settled(ext: &[u8], lo: &[u16; 17203], hi: &[u8; 17203], k: usize) -> usize
+// After the last push: n where slots are used and all that is held back takes what is left in them, so that all rows are pulled.
+pub fn settled(
+    ext: &[u8],
+    lo: &mut [u16; 17203],
+    hi: &mut [u8; 17203],
+    back: &[u32; 32],
+    k: usize,
+) -> usize
     ensures { λ s. ⌜ ((sent : Tuple → ℕ)
-        → Settles (now (ext .entry)) (now (lo .entry)) (now (hi .entry)) k sent → s ≤ length (now (ext .entry)) / 120
+        → Settles (now (ext .entry)) (now (lo .entry)) (now (hi .entry)) (now (back .entry)) k sent → s ≤ length (now (ext .entry)) / 120
         → (σ : Tuple) → sent σ ≡ pulledTo (tables [] (now (ext .entry))) σ s) ⌝ }
 {
     let n = ext.len() / 120;
-    if k != n + 1 {
+    if k <= n {
         return k;
     }
-    if none_waits(lo, hi) {
-        return n;
+    if n + 9 < k {
+        return k;
+    }
+    if take_back(ext, lo, hi, back, k - n - 1) {
+        if none_waits(lo, hi) {
+            return n;
+        }
     }
     k
 }

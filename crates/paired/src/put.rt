@@ -1,8 +1,7 @@
 // Pulls are put into slots: one, and all those of a class.
 use crate::hash::class_of;
 use crate::hash::low_of;
-use crate::hash::slot_of;
-use crate::slot::empty_from;
+use crate::slot::empty_for;
 use tuples::Sent;
 use tuples::pull_times;
 use tuples::tuple_at;
@@ -36,7 +35,7 @@ pub fn put_slot(lo: &mut [u16; 17203], hi: &mut [u8; 17203], span: u32, t: Sent,
     ensures { λ r. ⌜ (r ≡ true → (ext : List ℕ) → Sized (now (lo .entry)) (now (hi .entry))
         → OneMore ext span (pulled (extAt ext (120 * k))) (now (lo .entry)) (now (hi .entry)) (now (lo .exit)) (now (hi .exit))) ⌝ }
 {
-    let s = empty_from(lo, hi, slot_of(t));
+    let s = empty_for(lo, hi, t);
     if s < 17203 {
         let x = low_of(t, span) + k as u32 + 1;
         lo[s] = (x % 65536) as u16;

@@ -1,4 +1,7 @@
-// Slots are tried one after another from a tuple's own on, at most 2048 of them.
+// Slots are tried from a tuple's own on, in steps that are the tuple's too, at most 2048 of them.
+use crate::hash::low_of;
+use crate::hash::slot_of;
+use crate::hash::step_of;
 use tuples::Sent;
 use tuples::same;
 use tuples::tuple_at;
@@ -7,7 +10,7 @@ ghost use mathlib.Core.Bool.{true, false};
 ghost use lib.ListN.{length};
 ghost use Prim.Native.Nat.{ℕ, _+_, _*_, _<_, _≤_};
 ghost use Rattle.tuples.specs.Sent.{tupleOf};
-ghost use Rattle.paired.specs.Slots.{slotAt, live, waiting, Room, Tagged};
+ghost use Rattle.paired.specs.Slots.{slotAt, live, waiting, Span, Room, Tagged};
 
 // How many numbers a tag has: more than the table has rows. A short table leaves more bits to the tag.
 pub fn span_of(ext: &[u8]) -> u32
@@ -27,28 +30,29 @@ fn number(lo: u16, hi: u8) -> u32
     lo as u32 + 65536 * (hi as u32)
 }
 
-fn after(s: usize) -> usize
-    requires { ⌜ s < 17203 ⌝ }
+fn after(s: usize, step: usize) -> usize
+    requires { ⌜ (s < 17203) × (step < 17203) ⌝ }
     ensures { λ r. ⌜ r < 17203 ⌝ }
 {
-    if s == 17202 {
-        return 0;
+    let next = s + step;
+    if next < 17203 {
+        return next;
     }
-    s + 1
+    next - 17203
 }
 
-// An empty slot; 17203 where none is found.
-pub fn empty_from(lo: &[u16; 17203], hi: &[u8; 17203], from: usize) -> usize
-    requires { ⌜ from < 17203 ⌝ }
+// An empty slot for tuple t; 17203 where none is found.
+pub fn empty_for(lo: &[u16; 17203], hi: &[u8; 17203], t: Sent) -> usize
     ensures { λ r. ⌜ (r < 17203 → slotAt (now (lo .entry)) (now (hi .entry)) r ≡ 0) ⌝ }
 {
-    let mut s = from;
+    let step = step_of(t);
+    let mut s = slot_of(t);
     let mut tried: usize = 0;
     while tried < 2048 {
         if number(lo[s], hi[s]) == 0 {
             return s;
         }
-        s = after(s);
+        s = after(s, step);
         tried += 1;
     }
     17203
@@ -70,19 +74,13 @@ fn waits(ext: &[u8], x: u32, t: Sent, low: u32, span: u32) -> bool
 }
 
 // A slot where a row with tuple t waits; 17203 where none is found. None is beyond an empty slot.
-pub fn waiting_from(
-    ext: &[u8],
-    lo: &[u16; 17203],
-    hi: &[u8; 17203],
-    from: usize,
-    t: Sent,
-    low: u32,
-    span: u32,
-) -> usize
-    requires { ⌜ (from < 17203) × Tagged span low ⌝ }
+pub fn waiting_for(ext: &[u8], lo: &[u16; 17203], hi: &[u8; 17203], span: u32, t: Sent) -> usize
+    requires { ⌜ Span span ⌝ }
     ensures { λ r. ⌜ (r < 17203 → waiting (now (ext .entry)) span (tupleOf t) (slotAt (now (lo .entry)) (now (hi .entry)) r) ≡ true) ⌝ }
 {
-    let mut s = from;
+    let low = low_of(t, span);
+    let step = step_of(t);
+    let mut s = slot_of(t);
     let mut tried: usize = 0;
     while tried < 2048 {
         let x = number(lo[s], hi[s]);
@@ -92,7 +90,7 @@ pub fn waiting_from(
         if waits(ext, x, t, low, span) {
             return s;
         }
-        s = after(s);
+        s = after(s, step);
         tried += 1;
     }
     17203

@@ -1,8 +1,6 @@
 // Pushes take what waits in the slots: one, and all those of a class.
 use crate::hash::class_of;
-use crate::hash::low_of;
-use crate::hash::slot_of;
-use crate::slot::waiting_from;
+use crate::slot::waiting_for;
 use form::instruction_at;
 use rows::exec_row;
 use tuples::Sent;
@@ -40,7 +38,7 @@ pub fn take_slot(
     ensures { λ b. ⌜ (b ≡ true → Sized (now (lo .entry)) (now (hi .entry))
         → OneLess (now (ext .entry)) span (tupleOf t) (now (lo .entry)) (now (hi .entry)) (now (lo .exit)) (now (hi .exit))) ⌝ }
 {
-    let s = waiting_from(ext, lo, hi, slot_of(t), t, low_of(t, span), span);
+    let s = waiting_for(ext, lo, hi, span, t);
     if s < 17203 {
         lo[s] = 65535;
         hi[s] = 255;

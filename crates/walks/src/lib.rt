@@ -108,12 +108,13 @@ fn after_row(
     ext: &[u8],
     lo: &mut [u16; 17203],
     hi: &mut [u8; 17203],
+    back: &mut [u32; 32],
     x: Exec,
     k: usize,
 ) -> usize
     ensures { λ s. ⌜ (WellFormed (now (program .entry)) → x .pc < length (now (program .entry)) / 48 → (sent : Tuple → ℕ)
-        → Settles (now (ext .entry)) (now (lo .entry)) (now (hi .entry)) k sent
-        → Settles (now (ext .entry)) (now (lo .exit)) (now (hi .exit)) s
+        → Settles (now (ext .entry)) (now (lo .entry)) (now (hi .entry)) (now (back .entry)) k sent
+        → Settles (now (ext .entry)) (now (lo .exit)) (now (hi .exit)) (now (back .exit)) s
         (λ σ. sent σ + either (sameTuple (pushed (instructionAt (now (program .entry)) (48 * x .pc)) x) σ) (pushes (instructionAt (now (program .entry)) (48 * x .pc))) 0)) ⌝ }
 {
     let pc = x.pc as usize;
@@ -123,7 +124,7 @@ fn after_row(
     let at = 48 * pc;
     let i = instruction_at(&program[at..at + 48], 0);
     if (i.mul == 0) & (i.jump == 0) & (i.aux == 0) {
-        return after_push(ext, lo, hi, k, pushed_tuple(i, x));
+        return after_push(ext, lo, hi, back, k, pushed_tuple(i, x));
     }
     k
 }
@@ -138,6 +139,7 @@ pub fn exec_walk(program: &[u8], memory: &[u8], exec: &[u8], ext: &[u8]) -> Exec
     let n = exec.len() / 32;
     let mut lo = [0u16; 17203];
     let mut hi = [0u8; 17203];
+    let mut back = [0u32; 32];
     let mut words = true;
     let mut pulled = 0;
     let mut r = 0;
@@ -154,13 +156,13 @@ pub fn exec_walk(program: &[u8], memory: &[u8], exec: &[u8], ext: &[u8]) -> Exec
             }
         }
         words = words & are_words(exec, 8 * r);
-        pulled = after_row(program, ext, &mut lo, &mut hi, x, pulled);
+        pulled = after_row(program, ext, &mut lo, &mut hi, &mut back, x, pulled);
         r += 1;
     }
     Executed {
         at: r,
         words: words & (8 * n == exec.len() / 4),
-        pulled: settled(ext, &lo, &hi, pulled),
+        pulled: settled(ext, &mut lo, &mut hi, &back, pulled),
     }
 }
 

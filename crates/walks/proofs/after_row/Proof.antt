@@ -15,7 +15,7 @@ use Rattle.walks.proofs.after_row.Tie as tie
 
 returns-2 : tie.Need-returns-2
 returns-2 c =
-    let found = c .before .before .before .before in
+    let found = c .before .before .before .before .before in
     let start = found .before .before .before .before .before .before .before .before .before .before in
     let i = instructionAt (start .args .program .now) (48 * start .args .x .pc) in
     let read : found .before .before .before .before .instruction-at .result ≡ i = found .before .before .before .before .instruction-at .ensures ∙ instruction-lent (start .args .program .now) (48 * start .args .x .pc) in

@@ -56,27 +56,27 @@ module _ (program memory exec : List ℕ) (r : ℕ) (none : execFailing (given p
   pc-inside = ltb-true (execAt exec (32 * r) .pc) (length program / 48) (is-true _ (rules-hold .0))
 
 -- one row more, and what it pushes
-row-more : (program exec ext lo hi : List ℕ) (r s : ℕ) (x : Exec)
+row-more : (program exec ext lo hi back : List ℕ) (r s : ℕ) (x : Exec)
     → x ≡ execAt exec (32 * r)
-    → Settles ext lo hi s (λ σ. pushedTo (given program []) (tables exec ext) σ r + pushedBy program x σ)
-    → Settles ext lo hi s (λ σ. pushedTo (given program []) (tables exec ext) σ (r + 1))
-row-more program exec ext lo hi r s x is settles =
+    → Settles ext lo hi back s (λ σ. pushedTo (given program []) (tables exec ext) σ r + pushedBy program x σ)
+    → Settles ext lo hi back s (λ σ. pushedTo (given program []) (tables exec ext) σ (r + 1))
+row-more program exec ext lo hi back r s x is settles =
     sent-as settles _ (λ σ. one-more (λ q. pushedBy program (execAt exec (32 * q)) σ) r
     ∙ ap (λ (z : Exec). pushedTo (given program []) (tables exec ext) σ r + pushedBy program z σ) (sym is))
 
 abbrev Inv-loop : tie.InvT-loop
-Inv-loop program memory exec ext n lo₀ hi₀ words₀ pulled₀ r₀ lo hi words pulled r =
+Inv-loop program memory exec ext n lo₀ hi₀ back₀ words₀ pulled₀ r₀ lo hi back words pulled r =
     (n ≡ length exec / 32)
     × Walk (λ s. zero? (execFailing (given program memory) (tables exec []) s)) (length exec / 32) (firstExec (given program memory) (tables exec [])) r
     × (words ≡ true → Walk (isWord exec) (length exec / 4) (firstWord exec) (8 * r))
-    × (WellFormed program → Settles ext lo hi pulled (λ σ. pushedTo (given program []) (tables exec ext) σ r))
+    × (WellFormed program → Settles ext lo hi back pulled (λ σ. pushedTo (given program []) (tables exec ext) σ r))
 
 abbrev μ-loop : tie.MeasureT-loop
-μ-loop program memory exec ext n lo₀ hi₀ words₀ pulled₀ r₀ lo hi words pulled r = n - r
+μ-loop program memory exec ext n lo₀ hi₀ back₀ words₀ pulled₀ r₀ lo hi back words pulled r = n - r
 
 loop-holds : tie.Need-loop-holds Inv-loop μ-loop
 loop-holds c =
-    (refl, begins _ _, (λ _. begins _ _), λ well. none-sent _ _ (length-replicate {A = ℕ} 17203 0) (λ s h. getD-replicate 17203 s 0 0 h))
+    (refl, begins _ _, (λ _. begins _ _), λ well. none-sent _ _ _ (length-replicate {A = ℕ} 17203 0) (λ s h. getD-replicate 17203 s 0 0 h) refl)
 
 returns : tie.Need-returns Inv-loop μ-loop
 returns c = (
@@ -88,14 +88,14 @@ returns c = (
 
 add-r : tie.Need-add-r Inv-loop μ-loop
 add-r c =
-    let inside = c .before .before .before .before .before .before .before .before .before .loop-test .taken in
-    let args = c .before .before .before .before .before .before .before .before .before .before .before .before .before .before .before in
+    let inside = c .before .before .before .before .before .before .before .before .before .before .loop-test .taken in
+    let args = c .before .before .before .before .before .before .before .before .before .before .before .before .before .before .before .before in
     omega (arith, inside, args .good)
 
 loop-again : tie.Need-loop-again Inv-loop μ-loop
 loop-again c =
-    let tried = c .before .before .before .before in
-    let seen = c .before .before .before .are-words in
+    let tried = c .before .before .before .before .before in
+    let seen = c .before .before .before .before .are-words in
     let held = tried .before .exec-pair-holds in
     let second = tried .before .before .exec-at2 in
     let after = tried .before .before .before .next-row in
@@ -115,15 +115,15 @@ loop-again c =
           let next : 8 * (loop .r + 1) ≡ 8 * loop .r + 8 = omega arith in
           rw next (goes-past-all (loop .inv .2 (both .0)) 8 (omega (arith, inside)) (eight exec (8 * loop .r) (eight-seen exec (8 * loop .r) (sym (seen .ensures) ∙ both .1))))),
       λ well.
-          row-more (args .program .now) exec (args .ext .now) _ _ (loop .r) (c .after-row .result) (first .result) (first .ensures)
+          row-more (args .program .now) exec (args .ext .now) _ _ _ (loop .r) (c .after-row .result) (first .result) (first .ensures)
           (c .after-row .ensures well fetched _ (loop .inv .3 well)),
     )
 
 returns-2 : tie.Need-returns-2 Inv-loop μ-loop
 returns-2 c =
-    let ended = c .before .before .before .loop-test .left in
-    let loop = c .before .before .before .before .loop in
-    let args = c .before .before .before .before .before .before .before .before .before .args in
+    let ended = c .before .before .before .before .loop-test .left in
+    let loop = c .before .before .before .before .before .loop in
+    let args = c .before .before .before .before .before .before .before .before .before .before .args in
     let exec = args .exec .now in (
       finds-none (loop .inv .1) ended,
       (λ e.

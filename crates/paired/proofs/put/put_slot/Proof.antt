@@ -9,13 +9,13 @@ use Rattle.paired.proofs.put.put_slot.Tie as tie
 
 returns : tie.Need-returns
 returns c =
-    let start = c .before .before .before .before .before .before in
-    let empty-from = c .before .before .empty-from in
+    let start = c .before .before .before .before .before in
+    let empty-for = c .before .before .empty-for in
     let x = c .low-of .result + start .args .k + 1 in
     let inside = c .before .if1 .taken in
     λ _ ext size.
-    slot-put _ _ size (empty-from .result) (x % 65536) (x / 65536) inside ext (start .args .k) (c .low-of .ensures) (omega arith) (omega arith)
-    (empty-from .ensures inside)
+    slot-put _ _ size (empty-for .result) (x % 65536) (x / 65536) inside ext (start .args .k) (c .low-of .ensures) (omega arith) (omega arith)
+    (empty-for .ensures inside)
 
 returns-2 : tie.Need-returns-2
 returns-2 c = λ e. absurd (false≢true e)
@@ -24,7 +24,6 @@ pub put-slot-spec : {M : Type 1} → statement M
 put-slot-spec =
     tie.close
     (tie.spec
-    (λ c κs. search needs)
     (λ c κs. search needs)
     (λ c κs. search needs)
     (λ c. search needs)

@@ -7,8 +7,8 @@ use Rattle.paired.proofs.take.take_slot.Tie as tie
 
 returns : tie.Need-returns
 returns c =
-    let waiting-from = c .before .waiting-from in
-    λ _ size. slot-taken _ _ _ _ _ (waiting-from .result) size (c .if1 .taken) (waiting-from .ensures (c .if1 .taken))
+    let waiting-for = c .before .waiting-for in
+    λ _ size. slot-taken _ _ _ _ _ (waiting-for .result) size (c .if1 .taken) (waiting-for .ensures (c .if1 .taken))
 
 returns-2 : tie.Need-returns-2
 returns-2 c = λ e. absurd (false≢true e)
@@ -17,8 +17,6 @@ pub take-slot-spec : {M : Type 1} → statement M
 take-slot-spec =
     tie.close
     (tie.spec
-    (λ c κs. search needs)
-    (λ c κs. search needs)
     (λ c κs. search needs)
     (λ c. search needs)
     (λ c. search needs)

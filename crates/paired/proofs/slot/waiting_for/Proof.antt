@@ -4,14 +4,14 @@ use Prim.Native.Nat.{_-_, _<_}
 use mathlib.Core.Path.{ap, sym, _∙_}
 use Rattle.paired.specs.Slots.{waiting, Tagged}
 use borrow.Author.Needs.{needs}
-use Rattle.paired.proofs.slot.waiting_from.Statement.{statement}
-use Rattle.paired.proofs.slot.waiting_from.Tie as tie
+use Rattle.paired.proofs.slot.waiting_for.Statement.{statement}
+use Rattle.paired.proofs.slot.waiting_for.Tie as tie
 
 abbrev Inv-loop : tie.InvT-loop
-Inv-loop ext lo hi from t low span s₀ tried₀ s tried = (s < 17203) × Tagged span low
+Inv-loop ext lo hi span t low step s₀ tried₀ s tried = (s < 17203) × (step < 17203) × Tagged span low
 
 abbrev μ-loop : tie.MeasureT-loop
-μ-loop ext lo hi from t low span s₀ tried₀ s tried = 2048 - tried
+μ-loop ext lo hi span t low step s₀ tried₀ s tried = 2048 - tried
 
 returns : tie.Need-returns Inv-loop μ-loop
 returns c = λ h. absurd (omega arith)
@@ -22,12 +22,15 @@ returns-2 c = λ _. ap (waiting _ _ _) (sym (c .before .before .before .number .
 returns-3 : tie.Need-returns-3 Inv-loop μ-loop
 returns-3 c = λ h. absurd (omega arith)
 
-pub waiting-from-spec : {M : Type 1} → statement M
-waiting-from-spec =
+pub waiting-for-spec : {M : Type 1} → statement M
+waiting-for-spec =
     tie.close
     (tie.spec
     Inv-loop
     μ-loop
+    (λ c κs. search needs)
+    (λ c κs. search needs)
+    (λ c κs. search needs)
     (λ c. search needs)
     (λ c. search needs)
     (λ c. search needs)
