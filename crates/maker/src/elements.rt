@@ -1,11 +1,10 @@
 // The result of an extension instruction over the drawn cells.
-use element::peq;
-use element::product;
-use element::sum;
 use form::Op;
+use ops::none;
+use ops::with_term;
 ghost use mathlib.Core.Path.{_≡_};
 ghost use Prim.Native.Nat.{_+_, _*_, _%_, _≤_, _<_};
-ghost use Rattle.machine.specs.Extension.{elementAt, leftAt, rightAt, termOf, joined, nothing, result};
+ghost use Rattle.machine.specs.Extension.{elementAt, leftAt, rightAt, termOf, joined, result};
 ghost use Rattle.maker.specs.Made.{cellIn, opOf, beOf, lengthOf};
 
 // floor(c/2) mod 3 picks add, mul, peq.
@@ -43,36 +42,6 @@ fn left_at(cells: &[u32; 32], be: bool, a: usize, i: usize) -> [u32; 5]
     element_at(cells, a + 5 * i)
 }
 
-fn term_of(op: Op, a: [u32; 5], b: [u32; 5]) -> [u32; 5]
-    ensures { λ r. ⌜ r ≡ termOf op a b ⌝ }
-{
-    match op {
-        Op::Add => sum(a, b),
-        Op::Mul => product(a, b),
-        Op::Peq => peq(a, b),
-    }
-}
-
-fn join(op: Op, term: [u32; 5], rest: [u32; 5]) -> [u32; 5]
-    ensures { λ r. ⌜ r ≡ joined op term rest ⌝ }
-{
-    match op {
-        Op::Add => sum(term, rest),
-        Op::Mul => sum(term, rest),
-        Op::Peq => product(term, rest),
-    }
-}
-
-fn none(op: Op) -> [u32; 5]
-    ensures { λ r. ⌜ r ≡ nothing op ⌝ }
-{
-    match op {
-        Op::Add => [0, 0, 0, 0, 0],
-        Op::Mul => [0, 0, 0, 0, 0],
-        Op::Peq => [1, 0, 0, 0, 0],
-    }
-}
-
 // The term of element i, joined to what comes after it.
 fn with_element(
     cells: &[u32; 32],
@@ -88,7 +57,7 @@ fn with_element(
 {
     let x = left_at(cells, be, a, i);
     let y = element_at(cells, b + 5 * i);
-    join(op, term_of(op, x, y), rest)
+    with_term(op, x, y, rest)
 }
 
 // The one or two elements that an extension's draws name.

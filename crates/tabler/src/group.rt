@@ -1,11 +1,11 @@
 // The extension rows of a step's group, and the padding.
+use cells::cell;
+use cells::element_at;
 use form::Op;
+use ops::none;
 use rows::Ext;
 use rows::put_ext;
 use terms::Joined;
-use terms::cell;
-use terms::element_at;
-use terms::none;
 use terms::with_element;
 ghost use mathlib.Core.Path.{_≡_};
 ghost use Prim.Native.Nat.{_+_, _-_, _*_, _/_, _%_, _<_, _^_};

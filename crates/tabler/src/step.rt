@@ -1,6 +1,7 @@
 // One step of the machine: where it goes, or the first reason why it is stuck.
 use crate::Moved;
 use crate::group::put_group;
+use cells::element_at;
 use form::Decoded;
 use form::Form;
 use form::Kind;
@@ -12,7 +13,6 @@ use form::decode_known;
 use form::instruction_at;
 use terms::Operands;
 use terms::cells_exist;
-use terms::element_at;
 use terms::result_holds;
 use terms::same;
 use word::add;

@@ -1,15 +1,14 @@
 // What an extension instruction asks of its elements.
 use crate::Joined;
-use crate::reads::element_at;
-use element::peq;
-use element::product;
-use element::sum;
+use cells::element_at;
 use form::Op;
+use ops::none;
+use ops::with_term;
 ghost use mathlib.Core.Path.{_≡_};
 ghost use Prim.Native.Nat.{_/_, _<_, _^_};
 ghost use lib.ListN.{length};
 ghost use Rattle.rules.specs.Sizes.{wordOf};
-ghost use Rattle.machine.specs.Extension.{elementAt, leftSpan, cellsExist, termOf, joined, nothing, result, sameElement};
+ghost use Rattle.machine.specs.Extension.{elementAt, leftSpan, cellsExist, result, sameElement};
 ghost use Rattle.tables.specs.Groups.{leftIndex};
 ghost use Rattle.terms.specs.Joined.{leftOf, joinedAt};
 
@@ -33,36 +32,6 @@ fn left_from(be: bool, a: u32, i: u32) -> usize
     (a as usize) + 5 * (i as usize)
 }
 
-fn term_of(op: Op, a: [u32; 5], b: [u32; 5]) -> [u32; 5]
-    ensures { λ r. ⌜ r ≡ termOf op a b ⌝ }
-{
-    match op {
-        Op::Add => sum(a, b),
-        Op::Mul => product(a, b),
-        Op::Peq => peq(a, b),
-    }
-}
-
-fn join(op: Op, term: [u32; 5], rest: [u32; 5]) -> [u32; 5]
-    ensures { λ r. ⌜ r ≡ joined op term rest ⌝ }
-{
-    match op {
-        Op::Add => sum(term, rest),
-        Op::Mul => sum(term, rest),
-        Op::Peq => product(term, rest),
-    }
-}
-
-pub fn none(op: Op) -> [u32; 5]
-    ensures { λ r. ⌜ r ≡ nothing op ⌝ }
-{
-    match op {
-        Op::Add => [0, 0, 0, 0, 0],
-        Op::Mul => [0, 0, 0, 0, 0],
-        Op::Peq => [1, 0, 0, 0, 0],
-    }
-}
-
 // Element i, and its term joined to what comes after it.
 pub fn with_element(
     memory: &[u8],
@@ -77,7 +46,7 @@ pub fn with_element(
 {
     let left = element_at(memory, left_from(be, a, i));
     let right = element_at(memory, (b as usize) + 5 * (i as usize));
-    let comp = join(op, term_of(op, left_of(be, left), right), rest);
+    let comp = with_term(op, left_of(be, left), right, rest);
     Joined { left, right, comp }
 }
 

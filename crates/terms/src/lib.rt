@@ -1,16 +1,12 @@
-// What a step of the tabler reads: cells, elements and their terms, and its operands, each looked at once.
+// What a step of the tabler asks of the memory: elements and their terms, and its operands, each looked at once.
 mod elements;
 mod look;
-mod reads;
 
 pub use elements::cells_exist;
-pub use elements::none;
 pub use elements::result_holds;
 pub use elements::same;
 pub use elements::with_element;
 pub use look::look_all;
-pub use reads::cell;
-pub use reads::element_at;
 
 // What a step and its row ask of an operand.
 pub struct Looked {

@@ -1,7 +1,7 @@
 // What a step's operands read: each is looked at once, for the step and for its row.
 use crate::Looked;
 use crate::Operands;
-use crate::reads::cell;
+use cells::cell;
 use form::Form;
 use form::Kind;
 use form::Mode;

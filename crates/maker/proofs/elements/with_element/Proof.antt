@@ -1,4 +1,4 @@
--- By the promises of the four calls.
+-- By the promises of the three calls.
 use borrow.Author.Needs.{needs}
 use Rattle.maker.proofs.elements.with_element.Statement.{statement}
 use Rattle.maker.proofs.elements.with_element.Tie as tie
@@ -13,7 +13,6 @@ with-element-spec =
     (λ c κs. search needs)
     (λ c. search needs)
     (λ c. search needs)
-    (λ c κs. search needs)
     (λ c κs. search needs)
     (λ c κs. search needs)
     returns)

@@ -6,7 +6,7 @@ use Rattle.terms.proofs.elements.with_element.Statement.{statement}
 use Rattle.terms.proofs.elements.with_element.Tie as tie
 
 returns : tie.Need-returns
-returns c = let l = c .before .before .before .before in let s = l .before .before .before .args in rw (c .join .ensures, c .before .term-of .ensures, c .before .before .left-of .ensures, c .before .before .before .element-at2 .ensures, l .element-at .ensures, l .before .left-from .ensures .0, left-same (wordOf (s .memory .now)) (s .be) (s .a) (s .i))
+returns c = let l = c .before .before .before in let s = l .before .before .before .args in rw (c .with-term .ensures, c .before .left-of .ensures, c .before .before .element-at2 .ensures, l .element-at .ensures, l .before .left-from .ensures .0, left-same (wordOf (s .memory .now)) (s .be) (s .a) (s .i))
 
 pub with-element-spec : {M : Type 1} → statement M
 with-element-spec =
@@ -16,7 +16,6 @@ with-element-spec =
     (λ c κs. search needs)
     (λ c. search needs)
     (λ c. search needs)
-    (λ c κs. search needs)
     (λ c κs. search needs)
     (λ c κs. search needs)
     (λ c κs. search needs)

@@ -1,8 +1,8 @@
 -- Past the last cell, whole or cut short, there is no byte.
 use borrow.Author.Needs.{needs}
-use Rattle.terms.proofs.Past.{no-cell}
-use Rattle.terms.proofs.reads.cell.Statement.{statement}
-use Rattle.terms.proofs.reads.cell.Tie as tie
+use Rattle.cells.proofs.Past.{no-cell}
+use Rattle.cells.proofs.cell.Statement.{statement}
+use Rattle.cells.proofs.cell.Tie as tie
 
 returns-2 : tie.Need-returns-2
 returns-2 c = let s = c .before .before .before .args in no-cell (s .memory .now) (s .k) (c .if2 .taken)

@@ -1,7 +1,7 @@
 -- Each word is the cell's.
 use borrow.Author.Needs.{needs}
-use Rattle.terms.proofs.reads.element_at.Statement.{statement}
-use Rattle.terms.proofs.reads.element_at.Tie as tie
+use Rattle.cells.proofs.element_at.Statement.{statement}
+use Rattle.cells.proofs.element_at.Tie as tie
 
 returns-3 : tie.Need-returns-3
 returns-3 c = cc

@@ -1,7 +1,7 @@
 -- In each arm the operation is known.
 use borrow.Author.Needs.{needs}
-use Rattle.terms.proofs.elements.join.Statement.{statement}
-use Rattle.terms.proofs.elements.join.Tie as tie
+use Rattle.ops.proofs.join.Statement.{statement}
+use Rattle.ops.proofs.join.Tie as tie
 
 returns : tie.Need-returns
 returns c = rw (c .before .enum-told .given .1) (c .sum .ensures)

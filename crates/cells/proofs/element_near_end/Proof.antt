@@ -1,8 +1,8 @@
 -- Each word is the cell's; past the last cell each is 0.
 use borrow.Author.Needs.{needs}
-use Rattle.terms.proofs.Past.{no-element}
-use Rattle.terms.proofs.reads.element_near_end.Statement.{statement}
-use Rattle.terms.proofs.reads.element_near_end.Tie as tie
+use Rattle.cells.proofs.Past.{no-element}
+use Rattle.cells.proofs.element_near_end.Statement.{statement}
+use Rattle.cells.proofs.element_near_end.Tie as tie
 
 returns : tie.Need-returns
 returns c = let s = c .before .before .args in no-element (s .memory .now) (s .k) (c .if1 .taken)
