@@ -4,7 +4,7 @@ use Rattle.terms.proofs.elements.result_holds.Statement.{statement}
 use Rattle.terms.proofs.elements.result_holds.Tie as tie
 
 returns : tie.Need-returns
-returns c = cc
+returns c = rw (c .same .ensures, c .before .result-of .ensures, c .before .before .element-at .ensures)
 
 pub result-holds-spec : {M : Type 1} → statement M
 result-holds-spec =
