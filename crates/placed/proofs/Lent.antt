@@ -1,7 +1,7 @@
 -- Rows written through their own bytes: what a table holds once a part of it that was lent has come back.
 -- Assumes nothing.
 use borrow.Author.Tests.{eq-eqb}
-use mathlib.Core.List.{List, [], _∷_, _++_, append-assoc, append-nil}
+use mathlib.Core.List.{List, [], _++_, append-assoc, append-nil}
 use mathlib.Core.Path.{_≡_, refl, sym, ap, ap₂, _∙_}
 use Prim.Native.Nat.{ℕ, zero, suc, _+_, _-_, _*_, _≤_, _<_}
 use native.Mathlib.Nat.{add-zero, mul-zero, mul-suc, mul-add, not-suc-le-zero}
