@@ -1,24 +1,37 @@
 -- A step's outcome: what the code's answer says of it, that the indexes of its group are words, and what it leaves of the table.
 -- Assumes nothing.
-use borrow.Author.Tests.{leb-true}
+use borrow.Author.Tests.{leb-true, le-leb, lt-ltb}
 use mathlib.Core.Bool.{Bool, true, false}
 use mathlib.Core.List.{List, [], _∷_}
-use mathlib.Core.Path.{_≡_, refl, sym, _∙_}
-use Prim.Native.Nat.{ℕ, _+_, _-_, _*_, _≤_, _<_, _^_}
+use mathlib.Core.Path.{_≡_, refl, sym, ap, _∙_}
+use Prim.Native.Nat.{ℕ, _+_, _*_, _/_, _≤_, _<_, _^_}
 use native.Mathlib.Omega.{arith}
-use lib.Dec.{ltb, leb}
-use lib.ListN.{length, take-append-drop}
+use lib.Dec.{leb, ltb}
+use lib.ListN.{length}
 use Rattle.form.proofs.Cases.{each}
 use Rattle.form.specs.declared.Form.{Form}
+use Rattle.form.specs.declared.Kind.the-variants.{Add, Mul, Deref, Jump, Extension}
+use Rattle.form.specs.declared.Kind.{Kind}
 use Rattle.machine.specs.Extension.{leftSpan, cellsExist}
 use Rattle.machine.specs.Machine.{Machine, State}
-use Rattle.machine.specs.Step.{Outcome, goes, stuck, performs, step}
+use Rattle.machine.specs.Step.{Outcome, goes, stuck, asked, step}
+use Rattle.tables.specs.Bytes.{rowsOf}
+use Rattle.tables.specs.Groups.{lengthOf, stepRow}
 use Rattle.tables.specs.Rows.{formAt}
-use Rattle.terms.specs.Looked.{at}
-use Rattle.tabler.specs.Moves.{movedOf}
-use Rattle.tabler.specs.Placed.{Stepped}
-use Rattle.tabler.specs.declared.Moved.the-variants.{Stuck, Goes}
-use Rattle.tabler.specs.declared.Moved.{Moved}
+use Rattle.tabled.specs.Tabled.{machineOf}
+use Rattle.terms.specs.Looked.{at, operandsOf}
+use Rattle.terms.specs.declared.Operands.{Operands}
+use Rattle.placed.specs.Placed.{extBytes, placed}
+use Rattle.placed.proofs.Lent.{none-placed, no-rows}
+use Rattle.grouped.specs.Grouped.{groupFits}
+use Rattle.stepping.specs.Moves.{movedOf}
+use Rattle.stepping.specs.Taken.{performedBy, performedExt, taken, takenExt}
+use Rattle.stepping.specs.declared.Moved.the-variants.{Stuck, Goes}
+use Rattle.stepping.specs.declared.Moved.{Moved}
+use Rattle.stepping.proofs.Legal.{ext-asked}
+use Rattle.tabler.specs.Stepped.{Stepped}
+use Rattle.tabler.proofs.Looking.{value-a, value-b, value-c, taken-step}
+use Rattle.tabler.proofs.Standing.{kindRows, kind-rows}
 
 never : {A : Type 0} {rule : ℕ} {s : State} → stuck rule ≡ goes s → A
 never e = let z : _≡_ {A = ℕ} 0 1 = cc in absurd (omega arith)
@@ -37,35 +50,61 @@ pub held-up : (o : Outcome) {rule : ℕ} → Stuck rule ≡ movedOf o → o ≡ 
 held-up (goes s) e = crossed (sym e)
 held-up (stuck rule) e = cc
 
--- where all cells of a group exist its indexes are words
-pub indexed : (size : ℕ) (be : Bool) (n a b c : ℕ) → size ≤ 2 ^ 29 → cellsExist size be n a b c ≡ true → (a + 5 * n < 2 ^ 32) × (b + 5 * n < 2 ^ 32)
-indexed size be n a b c small all =
-    let each-holds = each (leb (a + leftSpan be n) size) (leb (b + 5 * n) size ∷ leb (c + 5) size ∷ []) all in
-    (left be (each-holds .0), omega (arith, leb-true (b + 5 * n) size (each-holds .1 .0)))
+-- what is asked of a step that goes on holds
+granted : (rule : ℕ) (b : Bool) (o : Outcome) {t : State} → asked rule b o ≡ goes t → (b ≡ true) × (o ≡ goes t)
+granted rule true o e = (refl, e)
+granted rule false o e = never e
+
+-- a group whose cells all exist fits where its rows do: its indexes are words
+fits : (memory : ℕ) (be : Bool) (n a b c filled ext : ℕ) → memory ≤ 2 ^ 31 → cellsExist (memory / 4) be n a b c ≡ true
+    → 120 * filled + 120 * n ≤ ext → groupFits n a b filled ext ≡ true
+fits memory be n a b c filled ext small all room =
+    let each-holds = each (leb (a + leftSpan be n) (memory / 4)) (leb (b + 5 * n) (memory / 4) ∷ leb (c + 5) (memory / 4) ∷ []) all in
+    rw (
+      le-leb (filled + n) (ext / 120) (omega arith),
+      lt-ltb (a + 5 * n) (2 ^ 32) (left be (each-holds .0)),
+      lt-ltb (b + 5 * n) (2 ^ 32) (omega (arith, leb-true (b + 5 * n) (memory / 4) (each-holds .1 .0))),
+    )
   where
-    left : (be : Bool) → leb (a + leftSpan be n) size ≡ true → a + 5 * n < 2 ^ 32
-    left true h = omega (arith, leb-true (a + (n + 4)) size h)
-    left false h = omega (arith, leb-true (a + 5 * n) size h)
+    left : (be : Bool) → leb (a + leftSpan be n) (memory / 4) ≡ true → a + 5 * n < 2 ^ 32
+    left true h = omega (arith, leb-true (a + (n + 4)) (memory / 4) h)
+    left false h = omega (arith, leb-true (a + 5 * n) (memory / 4) h)
 
-pub past-end : (m : Machine) (s : State) → ltb (s .pc) (m .count) ≡ false → step m s ≡ stuck 1
-unfolding step
-past-end m s h = rw h
+-- the rows of a step that goes on, by its kind
+kind-written : (cell : ℕ → ℕ) (memory : ℕ) (s : State) (o : Operands) (filled : ℕ) (ext : List ℕ) (kind : Kind) {t : State}
+    → memory ≤ 2 ^ 31 → performedBy cell (memory / 4) s o kind ≡ goes t → 120 * filled + 120 * lengthOf kind ≤ length ext
+    → performedExt cell (memory / 4) filled ext o kind
+    ≡ placed ext (120 * filled) (120 * filled + 120 * lengthOf kind) (kindRows cell kind (o .a .value) (o .b .value) (o .c .value))
+kind-written cell memory s o filled ext Add small e room = none-placed ext (120 * filled) (120 * filled + 120 * 0) (omega arith) (no-rows _ refl)
+kind-written cell memory s o filled ext Mul small e room = none-placed ext (120 * filled) (120 * filled + 120 * 0) (omega arith) (no-rows _ refl)
+kind-written cell memory s o filled ext Deref small e room = none-placed ext (120 * filled) (120 * filled + 120 * 0) (omega arith) (no-rows _ refl)
+kind-written cell memory s o filled ext Jump small e room = none-placed ext (120 * filled) (120 * filled + 120 * 0) (omega arith) (no-rows _ refl)
+kind-written cell memory s o filled ext (Extension op be n) small e room =
+    let all = granted 7 (cellsExist (memory / 4) be n (o .a .value) (o .b .value) (o .c .value)) _ e .0 in
+    rw (all, fits memory be n (o .a .value) (o .b .value) (o .c .value) filled (length ext) small all room)
 
--- the step of the form at a pc that the program has
-pub through : (m : Machine) (s : State) (f : Form) → ltb (s .pc) (m .count) ≡ true → f ≡ formAt m s → step m s ≡ performs m s f
-unfolding step
-through m s f h e = rw (h, ← e)
+-- the code's step is the machine's
+module _ (program memory : List ℕ) (s : State) (f : Form) (o : Operands)
+    (ef : f ≡ formAt (machineOf program memory) s) (eo : o ≡ operandsOf (machineOf program memory) s f)
+    (small : length memory ≤ 2 ^ 31) (filled : ℕ) (ext : List ℕ) where
+  abbrev m : Machine
+  m = machineOf program memory
 
-module _ {o : Outcome} {filled n : ℕ} {rows ext : List ℕ} where
-  -- a step that is stuck, one whose rows don't fit, and one that has none leave the table as it is
-  pub halts : {rule : ℕ} → o ≡ stuck rule → Stepped o filled n rows ext ext (Stuck rule)
-  halts e = record { moved = rw e; written = λ g _. never (sym e ∙ g) }
+  left-written : {t : State} → step m s ≡ goes t → 120 * filled + 120 * lengthOf (f .kind) ≤ length ext
+      → takenExt (m .count) (m .cell) (m .size) (s .pc) (f .kind) o filled ext
+      ≡ placed ext (120 * filled) (120 * filled + 120 * lengthOf (f .kind)) (rowsOf (λ j. extBytes (stepRow m s j)) (lengthOf (f .kind)))
+  left-written g room =
+      let one = granted 1 (ltb (s .pc) (m .count)) _ (taken-step m s f eo ef ∙ g) in
+      let two = granted 2 (o .a .legal) _ (one .1) in
+      let three = granted 3 (o .b .legal) _ (two .1) in
+      let four = granted 4 (o .c .legal) _ (three .1) in
+      sym (ext-asked (one .0) (two .0) (three .0) (four .0) ext)
+      ∙ kind-written (m .cell) (length memory) s o filled ext (f .kind) small (four .1) room
+      ∙ ap (placed ext (120 * filled) (120 * filled + 120 * lengthOf (f .kind)))
+      (kind-rows m s f (o .a .value) (o .b .value) (o .c .value) ef (value-a m s f eo) (value-b m s f eo) (value-c m s f eo))
 
-  pub too-long : {r : Moved} → length ext < 120 * filled + 120 * n → r ≡ movedOf o → Stepped o filled n rows ext ext r
-  too-long long e = record { moved = e; written = λ _ fits. absurd (omega arith) }
-
-  pub plain : {r : Moved} → n ≡ 0 → rows ≡ [] → r ≡ movedOf o → Stepped o filled n rows ext ext r
-  plain z none e =
-      let same : 120 * filled + 120 * n ≡ 120 * filled = omega arith in
-      let nothing : 120 * filled - 120 * filled ≡ 0 = omega arith in
-      record { moved = e; written = λ _ _. rw (none, same, nothing) (sym (take-append-drop (120 * filled) ext)) }
+  pub stepped : {r : Moved} {ext′ : List ℕ}
+      → r ≡ movedOf (taken (m .count) (m .cell) (m .size) s (f .kind) o)
+      → ext′ ≡ takenExt (m .count) (m .cell) (m .size) (s .pc) (f .kind) o filled ext
+      → Stepped (step m s) filled (lengthOf (f .kind)) (rowsOf (λ j. extBytes (stepRow m s j)) (lengthOf (f .kind))) ext ext′ r
+  stepped moved put = record { moved = moved ∙ ap movedOf (taken-step m s f eo ef); written = λ g room. put ∙ left-written g room }

@@ -1,5 +1,3 @@
-pub mod Results
-pub mod Lent
 pub mod Looking
 pub mod Standing
 pub mod Going

@@ -10,7 +10,7 @@ use native.Mathlib.Nat.{add-zero}
 use native.Mathlib.Numerals.{add-one}
 use native.Mathlib.Omega.{arith}
 use lib.Dec.{leb}
-use lib.ListN.{length, take, drop}
+use lib.ListN.{length, take}
 use lib.Seq.{take-all}
 use Rattle.form.specs.declared.Form.{Form}
 use Rattle.answer.specs.declared.Answer.the-variants.{Accepted, Stuck, Room, Open}
@@ -26,8 +26,8 @@ use Rattle.tables.specs.Rows.{execRowOf, formAt, reached, stateAt}
 use Rattle.judged.specs.Judged.{choose}
 use Rattle.tabled.specs.Tabled.{sameState, running}
 use Rattle.tabler.specs.Ends.{runOf, Ended}
-use Rattle.tabler.specs.Placed.{execBytes, extBytes, placed}
-use Rattle.tabler.proofs.Lent.{placed-length, rest-length, rows-on, rows-length, rows-same}
+use Rattle.placed.specs.Placed.{execBytes, extBytes, placed, withPadding}
+use Rattle.placed.proofs.Lent.{placed-length, rows-on, rows-length, rows-same}
 use Rattle.tabler.proofs.Standing.{of-step, past-last}
 
 -- what is left of the run, with n rows from r on
@@ -160,23 +160,23 @@ module _ {m : Machine} {start : State} {height room : ℕ} {exec ext : List ℕ}
     all-exec l = sym (take-all (32 * height) exec (omega arith)) ∙ rw all at (ran .exec-rows)
 
     -- padding in what is left
-    pub all-ext : length ext ≡ 120 * room → {ext′ x : List ℕ}
-        → x ≡ rowsOf (λ j. extBytes (padding (m .cell))) (length (take (length ext - 120 * k) (drop (120 * k) ext)) / 120)
-        → ext′ ≡ placed ext (120 * k) (length ext) x
+    pub all-ext : length ext ≡ 120 * room → {ext′ : List ℕ}
+        → ext′ ≡ withPadding (m .cell) k ext
         → ext′ ≡ extTable m (stateAt m start) height room
-    all-ext l {ext′} {x} put-pads put =
+    all-ext l {ext′} put =
         let fit = ran .fits in
-        let rest : length (take (length ext - 120 * k) (drop (120 * k) ext)) / 120 ≡ room - k = omega (arith, rest-length ext (120 * k) (omega arith)) in
-        let pads : x ≡ rowsOf (λ j. extBytes (padding (m .cell))) (room - k) = rw rest at put-pads in
+        let x = rowsOf (λ j. extBytes (padding (m .cell))) (room - k) in
+        let rows : length ext / 120 ≡ room = omega arith in
         let whole : k + (room - k) ≡ room = omega arith in
-        let end : 120 * k + 120 * (room - k) ≡ length ext = omega arith in
+        let end : 120 * k + 120 * (room - k) ≡ 120 * room = omega arith in
+        let padded : ext′ ≡ placed ext (120 * k) (120 * room) x = rw rows at put in
         let x-length : length x ≡ 120 * (room - k) =
-        ap length pads ∙ rows-length (λ j. extBytes (padding (m .cell))) 120 (room - k) (λ j. length-bytes (extWords (padding (m .cell)))) in
+        rows-length (λ j. extBytes (padding (m .cell))) 120 (room - k) (λ j. length-bytes (extWords (padding (m .cell)))) in
         let same : x ≡ rowsOf (λ j. extBytes (extRowOf m (stateAt m start) 0 height (k + j))) (room - k) =
-        pads ∙ rows-same (λ j. extBytes (padding (m .cell))) _ (room - k) (λ j b. ap extBytes (sym (past j))) in
+        rows-same (λ j. extBytes (padding (m .cell))) _ (room - k) (λ j b. ap extBytes (sym (past j))) in
         let filled-all = rw (whole, end) at (rows-on (λ j. extBytes (extRowOf m (stateAt m start) 0 height j)) 120 ext x k (room - k) (omega arith) x-length same (ran .ext-rows)) in
-        let longs : length ext′ ≡ 120 * room = ap length put ∙ placed-length ext x (120 * k) (length ext) (omega arith) (omega arith) (omega arith) ∙ l in
-        sym (take-all (120 * room) ext′ (omega arith)) ∙ ap (take (120 * room)) put ∙ filled-all
+        let longs : length ext′ ≡ 120 * room = ap length padded ∙ placed-length ext x (120 * k) (120 * room) (omega arith) (omega arith) (omega arith) ∙ l in
+        sym (take-all (120 * room) ext′ (omega arith)) ∙ ap (take (120 * room)) padded ∙ filled-all
       where
         past : (j : ℕ) → extRowOf m (stateAt m start) 0 height (k + j) ≡ padding (m .cell)
         past j = rw (ran .count, all) (past-last m (stateAt m start) height j)

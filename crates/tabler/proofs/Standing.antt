@@ -1,6 +1,7 @@
 -- Which step's row stands where in the extension table: the groups one after the other, and padding past the last.
 -- Assumes nothing.
 use borrow.Author.Tests.{lt-ltb, le-ltb}
+use mathlib.Core.List.{List}
 use mathlib.Core.Path.{_≡_, refl, sym, ap, _∙_}
 use Prim.Native.Nat.{ℕ, zero, suc, _+_, _-_, _<_}
 use native.Mathlib.Nat.{add-zero, zero-add}
@@ -8,12 +9,13 @@ use native.Mathlib.Omega.{arith}
 use Rattle.form.specs.declared.Form.{Form}
 use Rattle.form.specs.declared.Kind.the-variants.{Add, Mul, Deref, Jump, Extension}
 use Rattle.form.specs.declared.Kind.{Kind}
+use Rattle.rows.specs.declared.Ext.{Ext}
 use Rattle.machine.specs.Machine.{Machine, State, value}
 use Rattle.tables.specs.Bytes.{rowsOf}
-use Rattle.tables.specs.Groups.{padding, lengthOf, lengthAt, stepRowBy, stepRow, extRowOf, filled}
+use Rattle.tables.specs.Groups.{groupRow, padding, lengthOf, lengthAt, stepRowBy, stepRow, extRowOf, filled}
 use Rattle.tables.specs.Rows.{formAt}
-use Rattle.tabler.specs.Placed.{extBytes, kindRow, kindRows}
-use Rattle.tabler.proofs.Lent.{rows-same}
+use Rattle.placed.specs.Placed.{extBytes}
+use Rattle.placed.proofs.Lent.{rows-same}
 
 module _ (m : Machine) (state : ℕ → State) where
   -- the rows that d steps from step i on fill
@@ -57,8 +59,20 @@ module _ (m : Machine) (state : ℕ → State) where
         let e : height ≡ height + 0 = omega arith in
         rw (filled-spanned height) (ap (λ (n : ℕ). extRowOf m state 0 n (spanned 0 height + j)) e ∙ past height 0 0 j)
 
+-- row j of a step of a kind on three values; only an extension step has rows
+abbrev kindRow : (ℕ → ℕ) → Kind → ℕ → ℕ → ℕ → ℕ → Ext
+kindRow cell Add a b c j = padding cell
+kindRow cell Mul a b c j = padding cell
+kindRow cell Deref a b c j = padding cell
+kindRow cell Jump a b c j = padding cell
+kindRow cell (Extension op be n) a b c j = groupRow cell op be n a b c j
+
+-- all those rows
+abbrev pub kindRows : (ℕ → ℕ) → Kind → ℕ → ℕ → ℕ → List ℕ
+kindRows cell kind a b c = rowsOf (λ j. extBytes (kindRow cell kind a b c j)) (lengthOf kind)
+
 -- the row that the code writes for a step, from its kind and its three values
-pub kind-row : (m : Machine) (s : State) (f : Form) (a b c j : ℕ)
+kind-row : (m : Machine) (s : State) (f : Form) (a b c j : ℕ)
     → f ≡ formAt m s → a ≡ value m s (f .a) → b ≡ value m s (f .b) → c ≡ value m s (f .c)
     → kindRow (m .cell) (f .kind) a b c j ≡ stepRow m s j
 kind-row m s f a b c j e ea eb ec = rw (ea, eb, ec, e) (by (formAt m s .kind))

@@ -1,3 +1,2 @@
-pub mod Moves
-pub mod Placed
+pub mod Stepped
 pub mod Ends

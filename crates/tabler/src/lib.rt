@@ -1,6 +1,5 @@
 // The tabler: a program, a memory and a start, to the two tables of the run.
 mod finish;
-mod group;
 mod run;
 mod step;
 mod tests;
@@ -12,12 +11,6 @@ use tests::table_words;
 ghost use mathlib.Core.Path.{_≡_};
 ghost use lib.ListN.{length};
 ghost use Rattle.tabled.specs.Tabled.{tableOf, execAfter, extAfter};
-
-// What a step comes to.
-enum Moved {
-    Stuck { rule: u32 },
-    Goes { pc: u32, fp: u32 },
-}
 
 // The tabler. SIZE comes first; what is left is table_words's.
 pub fn table(

@@ -1,35 +1,34 @@
 // The run: H steps, and the rows of each written as it goes.
-use crate::Moved;
-use crate::group::put_padding;
 use crate::step::form_at;
 use crate::step::step_of;
 use crate::write::length_of;
-use crate::write::put_row;
 use answer::Answer;
+use placed::pad;
+use placed::put_row;
+use stepping::Moved;
 use terms::look_all;
 ghost use mathlib.Core.Path.{_≡_};
-ghost use Prim.Native.Nat.{_-_, _*_, _%_, _≤_, _<_, _^_};
+ghost use Prim.Native.Nat.{_-_, _<_, _^_};
 ghost use lib.ListN.{length};
 ghost use Rattle.rules.specs.Sizes.{wordOf};
 ghost use Rattle.judged.specs.Judged.{choose};
 ghost use Rattle.parts.specs.Parts.{Fitting};
 ghost use Rattle.tabler.specs.Ends.{Ended};
 ghost use Rattle.parts.specs.Words.{WellFormed};
-ghost use Rattle.tabler.specs.Placed.{padded};
+ghost use Rattle.placed.specs.Placed.{withPadding};
 
 // Every row is written: the last step has to stay, and past the last group is padding.
 fn close(memory: &[u8], height: usize, stays: bool, filled: usize, ext: &mut [u8]) -> Answer
-    requires { ⌜ (0 < height) × (height < 2 ^ 32) × (120 * filled ≤ length (now ext)) × (length (now ext) % 120 ≡ 0) ⌝ }
+    requires { ⌜ (0 < height) × (height < 2 ^ 32) ⌝ }
     ensures { λ r. ⌜ r ≡ choose stays Answer.Accepted (Answer.Open (height - 1)) ⌝ }
-    ensures { λ r. ⌜ (r ≡ Answer.Accepted → padded (wordOf (now (memory .entry))) filled (now (ext .entry)) (now (ext .exit))) ⌝ }
+    ensures { λ r. ⌜ (r ≡ Answer.Accepted → now (ext .exit) ≡ withPadding (wordOf (now (memory .entry))) filled (now (ext .entry))) ⌝ }
 {
     if !stays {
         return Answer::Open {
             row: (height - 1) as u32,
         };
     }
-    let from = 120 * filled;
-    put_padding(memory, &mut ext[from..]);
+    pad(memory, filled, ext);
     Answer::Accepted
 }
 

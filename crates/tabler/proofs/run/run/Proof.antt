@@ -10,6 +10,7 @@ use Rattle.tables.specs.Groups.{lengthOf}
 use Rattle.tabled.specs.Tabled.{machineOf}
 use Rattle.terms.specs.Looked.{at, operandsOf}
 use Rattle.tabler.proofs.Going.{went, held-up}
+use Rattle.tabler.proofs.Looking.{row-written}
 use Rattle.tabler.proofs.Running.{Ran, begins, is-stuck, no-room, turns, stands, all-exec, all-ext, refused, stuck-no, room-no}
 use Rattle.tabler.proofs.run.run.Statement.{statement}
 use Rattle.tabler.proofs.run.run.Tie as tie
@@ -43,11 +44,7 @@ step-of-requires c κs =
     let l = c .before .before .before .before .loop in
     let s = c .before .before .before .before .before .before .before .before .before in (
       omega (arith, s .pre .0),
-      record {
-        memory-short = s .pre .0 .memory-short;
-        ext-short = omega (arith, l .inv .1, s .pre .0 .ext-short);
-        filled-in = omega (arith, l .inv .1, l .inv .2 .fits);
-      },
+      s .pre .0 .memory-short,
       c .before .before .form-at .ensures,
       c .before .look-all .ensures (s .args .program .now) (l .pc),
     )
@@ -76,9 +73,6 @@ returns-2 c =
     refused room-no
     (no-room (l .inv .2) (q .before .before .before .before .loop-test .taken) (goes-here p)
     (rw len at (c .if1 .taken)))
-
-put-row-requires : tie.Need-put-row-requires Inv-loop μ-loop
-put-row-requires c κs = omega (arith, c .before .before .before .before .before .before .before .before .before .before .before .before .loop-test .taken, c .before .before .before .before .before .before .before .before .before .before .before .before .before .loop .inv .0)
 
 add-filled : tie.Need-add-filled Inv-loop μ-loop
 add-filled c =
@@ -110,15 +104,14 @@ loop-again c =
           (f .ensures) (n .ensures) (e .if1 .left)
           (omega (arith, more, l .inv .0))
           (omega (arith, e .if1 .left, l .inv .1))
-          (x .ensures m (looked ∙ ap (operandsOf m (at (l .pc) (l .fp))) (f .ensures)))
+          (row-written m (l .pc) (l .fp) (looked ∙ ap (operandsOf m (at (l .pc) (l .fp))) (f .ensures)) (l .exec) (l .r) (omega (arith, more, l .inv .0)) (x .ensures))
           (q .step-of .ensures .written (goes-here p) (omega (arith, e .if1 .left, n .ensures, l .inv .1))),
     )
 
 close-requires : tie.Need-close-requires Inv-loop μ-loop
 close-requires c κs =
-    let l = c .before .before .loop in
     let s = c .before .before .before .before .before .before .before in
-    (omega (arith, s .pre .0 .exec-some), omega (arith, s .pre .0 .exec-short), omega (arith, l .inv .1, l .inv .2 .fits), omega (arith, l .inv .1, s .pre .0 .ext-rows))
+    (omega (arith, s .pre .0 .exec-some), omega (arith, s .pre .0 .exec-short))
 
 returns-3 : tie.Need-returns-3 Inv-loop μ-loop
 returns-3 c =
@@ -130,7 +123,7 @@ returns-3 c =
       exec-filled = λ _. all-exec (l .inv .2) done
           (omega (arith, l .inv .0, s .pre .0 .exec-rows));
       ext-filled = λ y. all-ext (l .inv .2) done
-          (omega (arith, l .inv .1, s .pre .0 .ext-rows)) refl (c .before .before .close .ensures .1 y);
+          (omega (arith, l .inv .1, s .pre .0 .ext-rows)) (c .before .before .close .ensures .1 y);
     }
 
 pub run-spec : {M : Type 1} → statement M
@@ -155,7 +148,7 @@ run-spec =
     (λ c. search needs)
     (λ c. search needs)
     returns-2
-    put-row-requires
+    (λ c κs. search needs)
     add-filled
     add-r
     loop-less

@@ -1,0 +1,2 @@
+pub mod Moves
+pub mod Taken
