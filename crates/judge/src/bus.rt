@@ -11,7 +11,7 @@ ghost use lib.ListN.{length};
 ghost use Rattle.judged.specs.Judged.{bus};
 ghost use Rattle.rules.specs.Sizes.{given, tables};
 ghost use Rattle.tuples.specs.Order.{InOrder};
-ghost use Rattle.senders.specs.Bus.{Formed, Flagged, Short};
+ghost use Rattle.windows.specs.Bus.{Formed, Flagged, Short};
 
 pub fn bus_answer(program: &[u8], exec: &[u8], ext: &[u8], pulled: usize) -> Answer
     requires { ⌜ Formed (now program) (now exec) ⌝ }

@@ -17,7 +17,7 @@ ghost use Prim.Native.Nat.{_<_, _^_};
 ghost use Rattle.rules.specs.Satisfies.{Words};
 ghost use Rattle.judged.specs.Judged.{firstWord};
 ghost use Rattle.parts.specs.Words.{AllWords, WellFormed};
-ghost use Rattle.senders.specs.Bus.{Short};
+ghost use Rattle.windows.specs.Bus.{Short};
 ghost use Rattle.judge.specs.Stages.{wordsOf, programOf, rulesOf, Sees};
 
 // 5 EXEC, 6 EXTENSION and 7 BUS.

@@ -1,1 +1,3 @@
-pub mod Looks
+pub mod Bus
+pub mod Senders
+pub mod Window

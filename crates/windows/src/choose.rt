@@ -1,38 +1,32 @@
 // Which tuples a window holds: those of the senders from one on. Nothing depends on the choice but how much a window settles.
-use crate::seek::lower_of;
-use crate::seek::place;
-use crate::seek::seek;
-use crate::seek::upper_of;
 use crate::sender::sender;
+use slots::joined;
+use slots::seek;
 use tuples::Sent;
 ghost use mathlib.Core.List.{[]};
 ghost use Prim.Native.Nat.{_+_, _/_, _<_, _≤_};
 ghost use lib.ListN.{length};
 ghost use Rattle.rules.specs.Sizes.{given, tables};
-ghost use Rattle.senders.specs.Bus.{Formed, Flagged};
-ghost use Rattle.senders.specs.Window.{SameLengths, Holds};
+ghost use Rattle.windows.specs.Bus.{Formed, Flagged};
+ghost use Rattle.windows.specs.Window.{SameLengths, Holds};
 
-// Puts a tuple among the sorted slots, of which those below `used` are used, unless it is there. How many are used then.
-fn put(uppers: &mut [u64; 1024], lowers: &mut [u64; 1024], used: usize, t: Sent) -> usize
-    requires { ⌜ used < 1024 ⌝ }
+// Puts a tuple after slot `at` among the sorted slots, of which those below `used` are used. How many are used then.
+fn put(uppers: &mut [u64; 1024], lowers: &mut [u64; 1024], used: usize, at: usize, t: Sent) -> usize
+    requires { ⌜ (used < 1024) × (at < 18446744073709551615) ⌝ }
     ensures { λ r. ⌜ (r ≤ used + 1) × SameLengths (now (uppers .entry)) (now (lowers .entry)) (now (uppers .exit)) (now (lowers .exit)) ⌝ }
 {
-    if seek(uppers, lowers, t) < 1024 {
-        return used;
-    }
-    let at = place(uppers, lowers, t);
     let mut i = used;
     while at + 1 < i {
         uppers[i] = uppers[i - 1];
         lowers[i] = lowers[i - 1];
         i -= 1;
     }
-    uppers[i] = upper_of(t);
-    lowers[i] = lower_of(t);
+    uppers[i] = joined(t.aux, t.left);
+    lowers[i] = joined(t.right, t.out);
     used + 1
 }
 
-// Puts the tuple of sender j, if it sends one.
+// Puts the tuple of sender j, if it sends one that is not there.
 fn put_sender(
     program: &[u8],
     exec: &[u8],
@@ -52,7 +46,11 @@ fn put_sender(
         return used;
     }
     let t = x.sent;
-    put(uppers, lowers, used, t)
+    let s = seek(uppers, lowers, t);
+    if s < 1024 {
+        return used;
+    }
+    put(uppers, lowers, used, s - 1024, t)
 }
 
 // The tuples of the senders from one on, as many as there is room for; slot 0 is left.
@@ -98,6 +96,6 @@ pub fn choose(
     fill(program, exec, ext, uppers, lowers, from + 1);
     let x = sender(program, exec, ext, from);
     let t = x.sent;
-    uppers[0] = upper_of(t);
-    lowers[0] = lower_of(t);
+    uppers[0] = joined(t.aux, t.left);
+    lowers[0] = joined(t.right, t.out);
 }

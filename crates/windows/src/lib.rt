@@ -1,19 +1,26 @@
 // The bus where pushes and pulls stand in different orders, or don't match: counted in windows, up to the first sender that is unequal.
 mod choose;
 mod ready;
-mod seek;
 mod sender;
 mod tuple;
 mod window;
 
 use answer::Answer;
 use ready::countable;
+use tuples::Sent;
 use window::first_unequal;
 ghost use mathlib.Core.Path.{_≡_};
 ghost use mathlib.Core.List.{[]};
 ghost use Rattle.judged.specs.Judged.{bus};
 ghost use Rattle.rules.specs.Sizes.{given, tables};
-ghost use Rattle.senders.specs.Bus.{Formed, Flagged, Short, countedBus};
+ghost use Rattle.windows.specs.Bus.{Formed, Flagged, Short, countedBus};
+
+// A tuple, how often it is pushed, and how often it is pulled.
+struct Tally {
+    plus: u32,
+    minus: u32,
+    sent: Sent,
+}
 
 // What the counts say of a sender: that its tuple was not counted, or that it is unequal.
 struct Found {

@@ -4,7 +4,7 @@ use crate::tuple::row_of;
 use form::well_formed;
 use rows::Ext;
 ghost use mathlib.Core.Path.{_≡_};
-ghost use Rattle.senders.specs.Bus.{flags, firstUnformed, firstUnflagged, countable};
+ghost use Rattle.windows.specs.Bus.{flags, firstUnformed, firstUnflagged, countable};
 
 // The first execution row whose instruction is malformed; their number where there is none.
 fn first_unformed(program: &[u8], exec: &[u8]) -> usize

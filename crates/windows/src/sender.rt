@@ -1,10 +1,10 @@
 // The execution rows and then the extension rows as one sequence of senders, in the order in which verdict 7 tries them.
+use crate::Tally;
 use crate::tuple::instruction_of;
 use crate::tuple::pull_times;
 use crate::tuple::pushing;
 use crate::tuple::row_of;
 use rows::exec_row;
-use senders::Tally;
 use tuples::Sent;
 use tuples::pulled_tuple;
 use tuples::pushed_tuple;
@@ -12,8 +12,8 @@ ghost use mathlib.Core.List.{[]};
 ghost use Prim.Native.Nat.{_+_, _/_, _<_};
 ghost use lib.ListN.{length};
 ghost use Rattle.rules.specs.Sizes.{given, tables};
-ghost use Rattle.senders.specs.Bus.{Formed, Flagged};
-ghost use Rattle.senders.specs.Senders.{pushSent, pullSent, sendingOf, Reads};
+ghost use Rattle.windows.specs.Bus.{Formed, Flagged};
+ghost use Rattle.windows.specs.Senders.{pushSent, pullSent, sendingOf, Reads};
 
 // Execution row r. Most rows push nothing: of those no tuple is made.
 fn pusher(program: &[u8], exec: &[u8], r: usize) -> Tally

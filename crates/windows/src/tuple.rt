@@ -12,7 +12,7 @@ ghost use Rattle.rows.specs.Rows.{extAt};
 ghost use Rattle.rules.specs.Given.{either};
 ghost use Rattle.rules.specs.Bus.{pushes, pulls, instructionOf};
 ghost use Rattle.rules.specs.Sizes.{given, tables};
-ghost use Rattle.senders.specs.Bus.{Formed, Flags};
+ghost use Rattle.windows.specs.Bus.{Formed, Flags};
 
 // The instruction of execution row r, of which only pc is read.
 pub fn instruction_of(program: &[u8], exec: &[u8], r: usize) -> Instruction

@@ -4,18 +4,17 @@
 use crate::Found;
 use crate::Looked;
 use crate::choose::choose;
-use crate::seek::seek;
 use crate::sender::sender;
+use slots::seek;
 ghost use mathlib.Core.Path.{_≡_};
 ghost use mathlib.Core.List.{[]};
 ghost use Prim.Native.Nat.{_+_, _-_, _/_, _<_};
 ghost use lib.ListN.{length};
 ghost use Rattle.rules.specs.Sizes.{given, tables};
 ghost use Rattle.judged.specs.First.{first};
-ghost use Rattle.senders.specs.Bus.{Short, Formed, Flagged};
-ghost use Rattle.senders.specs.Senders.{equalAt};
-ghost use Rattle.senders.specs.Window.{Counted, Holds};
-ghost use Rattle.windows.specs.Looks.{FoundAt, LooksFrom};
+ghost use Rattle.windows.specs.Bus.{Short, Formed, Flagged};
+ghost use Rattle.windows.specs.Senders.{equalAt, LooksFrom};
+ghost use Rattle.windows.specs.Window.{Counted, Holds, FoundAt};
 
 // Counts sender j, if the window holds its tuple.
 fn count_one(

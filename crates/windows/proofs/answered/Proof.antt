@@ -4,7 +4,7 @@ use borrow.Author.Tests.{lt-ltb, le-ltb}
 use mathlib.Core.List.{[]}
 use native.Mathlib.Omega.{arith}
 use Rattle.rules.specs.Sizes.{given, tables}
-use Rattle.senders.proofs.Joined.{push-first, push-none, pull-first, pull-none}
+use Rattle.windows.proofs.Joined.{push-first, push-none, pull-first, pull-none}
 use Rattle.windows.proofs.answered.Statement.{statement}
 use Rattle.windows.proofs.answered.Tie as tie
 

@@ -2,7 +2,7 @@
 use borrow.Author.Needs.{needs}
 use borrow.Author.Tests.{not-true, not-false}
 use mathlib.Core.Path.{sym, _∙_}
-use Rattle.senders.proofs.Countable.{can-count, counts, counts-not}
+use Rattle.windows.proofs.Countable.{can-count, counts, counts-not}
 use Rattle.windows.proofs.count_bus.Statement.{statement}
 use Rattle.windows.proofs.count_bus.Tie as tie
 

@@ -7,8 +7,8 @@ use native.Mathlib.Omega.{arith}
 use lib.ListN.{length}
 use Rattle.rules.specs.Bus.{pulledTo}
 use Rattle.rules.specs.Sizes.{given, tables}
-use Rattle.senders.proofs.Balances.{all-equal}
-use Rattle.senders.proofs.Countable.{counts}
+use Rattle.judge.proofs.Balances.{all-equal}
+use Rattle.windows.proofs.Countable.{counts}
 use borrow.Author.Needs.{needs}
 use Rattle.judge.proofs.bus.bus_answer.Statement.{statement}
 use Rattle.judge.proofs.bus.bus_answer.Tie as tie

@@ -1,7 +1,7 @@
 -- Each answer is the case of the tests that led to it; where no rule fails the bus has what it asks.
 use borrow.Author.Tests.{lt-ltb, le-ltb}
 use mathlib.Core.Path.{sym, _∙_}
-use Rattle.senders.proofs.Passed.{rows-formed, rows-flagged, ext-failing-same, first-ext-same}
+use Rattle.judge.proofs.Passed.{rows-formed, rows-flagged, ext-failing-same, first-ext-same}
 use borrow.Author.Needs.{needs}
 use Rattle.judge.proofs.stage.rules_answer.Statement.{statement}
 use Rattle.judge.proofs.stage.rules_answer.Tie as tie

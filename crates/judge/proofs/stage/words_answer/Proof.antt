@@ -1,7 +1,7 @@
 -- Each answer is the case of the tests that led to it.
 use borrow.Author.Tests.{lt-ltb, le-ltb}
 use mathlib.Core.Path.{sym}
-use Rattle.senders.proofs.Passed.{all-words}
+use Rattle.judge.proofs.Passed.{all-words}
 use borrow.Author.Needs.{needs}
 use Rattle.judge.proofs.stage.words_answer.Statement.{statement}
 use Rattle.judge.proofs.stage.words_answer.Tie as tie

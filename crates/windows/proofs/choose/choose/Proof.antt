@@ -5,8 +5,8 @@ use Prim.Native.Nat.{_<_}
 use lib.ListN.{set}
 use native.Mathlib.Omega.{arith}
 use Rattle.tuples.specs.Sent.{tupleOf}
-use Rattle.senders.specs.Window.{slotOf}
-use Rattle.senders.proofs.Windows.{slot-first, slot-given}
+use Rattle.slots.specs.Slots.{slotOf}
+use Rattle.slots.proofs.Slots.{slot-first, slot-given}
 use Rattle.windows.proofs.choose.choose.Statement.{statement}
 use Rattle.windows.proofs.choose.choose.Tie as tie
 
@@ -15,8 +15,8 @@ returns c =
     let start = c .before .before .before .before .before .before .before .before .before .before in
     let fill = c .before .before .before .before .fill in
     let sender = c .before .before .before .sender in
-    let upper = c .before .upper-of in
-    let lower = c .lower-of in
+    let upper = c .before .joined in
+    let lower = c .joined2 in
     let U = fill .last .1 .1 .1 .0 in
     let L = fill .last .1 .1 .1 .1 .0 in
     let σ = tupleOf (sender .result .sent) in

@@ -4,7 +4,7 @@ use mathlib.Core.Path.{_≡_, refl, _∙_}
 use Prim.Native.Nat.{_+_, _-_, _/_, _≤_}
 use native.Mathlib.Omega.{arith}
 use lib.ListN.{length}
-use Rattle.senders.specs.Window.{SameLengths}
+use Rattle.windows.specs.Window.{SameLengths}
 use Rattle.windows.proofs.choose.fill.Statement.{statement}
 use Rattle.windows.proofs.choose.fill.Tie as tie
 

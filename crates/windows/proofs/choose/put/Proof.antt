@@ -4,18 +4,15 @@ use mathlib.Core.Path.{refl}
 use Prim.Native.Nat.{_≤_}
 use native.Mathlib.Omega.{arith}
 use lib.ListN.{length-set}
-use Rattle.senders.specs.Window.{SameLengths}
+use Rattle.windows.specs.Window.{SameLengths}
 use Rattle.windows.proofs.choose.put.Statement.{statement}
 use Rattle.windows.proofs.choose.put.Tie as tie
 
 abbrev Inv-loop : tie.InvT-loop
-Inv-loop uppers₀ lowers₀ used t at i₀ uppers lowers i = (i ≤ used) × SameLengths uppers₀ lowers₀ uppers lowers
+Inv-loop uppers₀ lowers₀ used at t i₀ uppers lowers i = (i ≤ used) × SameLengths uppers₀ lowers₀ uppers lowers
 
 abbrev μ-loop : tie.MeasureT-loop
-μ-loop uppers₀ lowers₀ used t at i₀ uppers lowers i = i
-
-returns : tie.Need-returns Inv-loop μ-loop
-returns c = (omega arith, (refl, refl))
+μ-loop uppers₀ lowers₀ used at t i₀ uppers lowers i = i
 
 loop-holds : tie.Need-loop-holds Inv-loop μ-loop
 loop-holds c = (omega arith, (refl, refl))
@@ -25,8 +22,8 @@ loop-again c =
     let same = c .before .before .before .loop .inv .1 in
     (omega arith, (simp length-set (same .0), simp length-set (same .1)))
 
-returns-2 : tie.Need-returns-2 Inv-loop μ-loop
-returns-2 c =
+returns : tie.Need-returns Inv-loop μ-loop
+returns c =
     let same = c .before .before .before .loop .inv .1 in
     (omega arith, (simp length-set (same .0), simp length-set (same .1)))
 
@@ -36,9 +33,6 @@ put-spec =
     (tie.spec
     Inv-loop
     μ-loop
-    (λ c κs. search needs)
-    returns
-    (λ c κs. search needs)
     loop-holds
     (λ c. search needs)
     (λ c. search needs)
@@ -61,4 +55,4 @@ put-spec =
     (λ c. search needs)
     (λ c. search needs)
     (λ c. search needs)
-    returns-2)
+    returns)

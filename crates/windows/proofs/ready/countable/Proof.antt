@@ -1,6 +1,6 @@
 -- Each test is the definition's.
 use borrow.Author.Needs.{needs}
-use Rattle.senders.specs.Bus.{countable}
+use Rattle.windows.specs.Bus.{countable}
 use Rattle.windows.proofs.ready.countable.Statement.{statement}
 use Rattle.windows.proofs.ready.countable.Tie as tie
 

@@ -7,7 +7,7 @@ use native.Mathlib.Omega.{arith}
 use lib.ListN.{length}
 use Rattle.rows.specs.Rows.{extAt}
 use Rattle.parts.proofs.Walks.{Walk, begins, goes-past, finds, finds-none}
-use Rattle.senders.specs.Bus.{flags, firstUnflagged}
+use Rattle.windows.specs.Bus.{flags, firstUnflagged}
 use Rattle.windows.proofs.ready.first_unflagged.Statement.{statement}
 use Rattle.windows.proofs.ready.first_unflagged.Tie as tie
 

@@ -6,7 +6,7 @@ use Prim.Native.Nat.{_-_, _/_}
 use native.Mathlib.Omega.{arith}
 use lib.ListN.{length}
 use Rattle.parts.proofs.Walks.{Walk, begins, goes-past, finds, finds-none}
-use Rattle.senders.specs.Bus.{formedAt, firstUnformed}
+use Rattle.windows.specs.Bus.{formedAt, firstUnformed}
 use Rattle.windows.proofs.ready.first_unformed.Statement.{statement}
 use Rattle.windows.proofs.ready.first_unformed.Tie as tie
 

@@ -2,7 +2,7 @@
 use borrow.Author.Needs.{needs}
 use mathlib.Core.Path.{refl, sym, _∙_}
 use Rattle.rules.specs.Bus.{pushed}
-use Rattle.senders.proofs.Tuples.{no-push, one-push}
+use Rattle.windows.proofs.Tuples.{no-push, one-push}
 use Rattle.windows.proofs.sender.pusher.Statement.{statement}
 use Rattle.windows.proofs.sender.pusher.Tie as tie
 

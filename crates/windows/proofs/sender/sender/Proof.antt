@@ -1,7 +1,7 @@
 -- Sender j is the row that the code reads.
 use borrow.Author.Needs.{needs}
 use borrow.Author.Tests.{lt-ltb, le-ltb}
-use Rattle.senders.specs.Senders.{sendingOf}
+use Rattle.windows.specs.Senders.{sendingOf}
 use Rattle.windows.proofs.sender.sender.Statement.{statement}
 use Rattle.windows.proofs.sender.sender.Tie as tie
 

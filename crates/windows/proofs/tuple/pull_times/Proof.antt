@@ -2,7 +2,7 @@
 use borrow.Author.Needs.{needs}
 use mathlib.Core.Path.{refl}
 use native.Mathlib.Omega.{arith}
-use Rattle.senders.proofs.Tuples.{at-most-three}
+use Rattle.windows.proofs.Tuples.{at-most-three}
 use Rattle.windows.proofs.tuple.pull_times.Statement.{statement}
 use Rattle.windows.proofs.tuple.pull_times.Tie as tie
 

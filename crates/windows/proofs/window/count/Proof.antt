@@ -6,7 +6,7 @@ use Prim.Native.Nat.{_+_, _-_, _/_, _≤_}
 use native.Mathlib.Omega.{arith}
 use lib.ListN.{length}
 use Rattle.rules.specs.Sizes.{given, tables}
-use Rattle.senders.specs.Window.{Counted}
+use Rattle.windows.specs.Window.{Counted}
 use Rattle.windows.proofs.window.count.Statement.{statement}
 use Rattle.windows.proofs.window.count.Tie as tie
 

@@ -1,7 +1,7 @@
 -- A sender adds to its tuple's slot, and where it sends nothing or has no slot, to none.
 use borrow.Author.Needs.{needs}
 use borrow.Author.Tests.{ltb-true, ltb-false}
-use mathlib.Core.Path.{_≡_, refl, ap, _∙_}
+use mathlib.Core.Path.{_≡_, refl}
 use mathlib.Core.Bool.{Bool, true, false}
 use lib.ListN.{length, getD, List·getD-eq-default}
 use lib.Dec.{ltb}
@@ -9,8 +9,8 @@ use Prim.Native.Nat.{ℕ, _≤_, _<_}
 use mathlib.Core.List.{List, []}
 use native.Mathlib.Omega.{arith}
 use Rattle.rules.specs.Sizes.{given, tables}
-use Rattle.senders.specs.Window.{slotOf}
-use Rattle.senders.proofs.Windows.{has-room, counts-nothing, counts-absent, counts-held}
+use Rattle.slots.proofs.Slots.{sought-held, sought-none}
+use Rattle.windows.proofs.Windows.{has-room, counts-nothing, counts-absent, counts-held}
 use Rattle.windows.proofs.window.count_one.Statement.{statement}
 use Rattle.windows.proofs.window.count_one.Tie as tie
 
@@ -57,7 +57,7 @@ returns-2 c =
     counts-held (given (start .args .program .now) []) (tables (start .args .exec .now) (start .args .ext .now))
     (start .args .uppers .now) (start .args .lowers .now) (start .args .net .now) (start .args .j) (sender .result) (sender .ensures) (start .pre .1 .1 .1 .1)
     (seek .result) _
-    (seek .ensures ∙ ap (slotOf (start .args .uppers .now) (start .args .lowers .now)) (sender .ensures .tuple-is (if1 .left)))
+    (sought-held (start .args .uppers .now) (start .args .lowers .now) _ (seek .result) (rw (sender .ensures .tuple-is (if1 .left)) at (seek .ensures)) (if2 .taken))
     (within (start .args .net .now) (seek .result) (omega arith))
     (omega arith)
 
@@ -67,10 +67,9 @@ returns-3 c =
     let sender = c .before .before .before .before .before .sender in
     let if1 = c .before .before .before .if1 in
     let seek = c .before .seek in
-    let slot = seek .ensures ∙ ap (slotOf (start .args .uppers .now) (start .args .lowers .now)) (sender .ensures .tuple-is (if1 .left)) in
     counts-absent (given (start .args .program .now) []) (tables (start .args .exec .now) (start .args .ext .now))
     (start .args .uppers .now) (start .args .lowers .now) (start .args .net .now) (start .args .j) (sender .result) (sender .ensures) (start .pre .1 .1 .1 .1)
-    (omega arith)
+    (sought-none (start .args .uppers .now) (start .args .lowers .now) _ (seek .result) (rw (sender .ensures .tuple-is (if1 .left)) at (seek .ensures)) (c .if2 .left))
 
 pub count-one-spec : {M : Type 1} → statement M
 count-one-spec =

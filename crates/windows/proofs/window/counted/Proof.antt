@@ -1,7 +1,7 @@
 -- Every slot starts at 2^31.
 use borrow.Author.Needs.{needs}
 use lib.ListN.{getD-replicate}
-use Rattle.senders.proofs.Windows.{starts}
+use Rattle.windows.proofs.Windows.{starts}
 use Rattle.windows.proofs.window.counted.Statement.{statement}
 use Rattle.windows.proofs.window.counted.Tie as tie
 

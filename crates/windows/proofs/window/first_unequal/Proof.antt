@@ -7,7 +7,7 @@ use native.Mathlib.Omega.{arith}
 use Rattle.rules.specs.Sizes.{given, tables}
 use Rattle.judged.specs.First.{first}
 use Rattle.parts.proofs.Walks.{Walk, begins, finds-none}
-use Rattle.senders.specs.Senders.{senders, equalAt}
+use Rattle.windows.specs.Senders.{senders, equalAt}
 use Rattle.windows.proofs.window.first_unequal.Statement.{statement}
 use Rattle.windows.proofs.window.first_unequal.Tie as tie
 

@@ -1,15 +1,14 @@
 -- The count of the slot says whether the tuple is equal.
 use borrow.Author.Needs.{needs}
 use borrow.Author.Tests.{not-true, not-false, eqb-true, eqb-false}
-use mathlib.Core.Path.{ap, _∙_}
 use mathlib.Core.Bool.{true, false, true≢false, false≢true}
 use mathlib.Core.List.{[]}
 use native.Mathlib.Omega.{arith}
 use Rattle.rules.specs.Sizes.{given, tables}
-use Rattle.senders.specs.Senders.{sendingOf}
-use Rattle.senders.specs.Window.{slotOf}
-use Rattle.senders.proofs.Joined.{equal-nothing, equal-sent}
-use Rattle.senders.proofs.Windows.{count-equal, count-unequal}
+use Rattle.windows.specs.Senders.{sendingOf}
+use Rattle.windows.proofs.Joined.{equal-nothing, equal-sent}
+use Rattle.slots.proofs.Slots.{sought-held, sought-none}
+use Rattle.windows.proofs.Windows.{count-equal, count-unequal}
 use Rattle.windows.proofs.window.found.Statement.{statement}
 use Rattle.windows.proofs.window.found.Tie as tie
 
@@ -31,9 +30,9 @@ returns-2 c =
     let sender = c .before .before .before .before .before .sender in
     let if1 = c .before .before .before .if1 in
     let seek = c .before .seek in
-    let slot = seek .ensures ∙ ap (slotOf (start .args .uppers .now) (start .args .lowers .now)) (sender .ensures .tuple-is (if1 .left)) in
+    let none = sought-none (start .args .uppers .now) (start .args .lowers .now) _ (seek .result) (rw (sender .ensures .tuple-is (if1 .left)) at (seek .ensures)) (c .if2 .taken) in
     record {
-      missing = λ _ holds. omega (arith, holds (λ none. if1 .left (omega (arith, sender .ensures .plus-is, sender .ensures .minus-is))));
+      missing = λ _ holds. omega (arith, none, holds (λ silent. if1 .left (omega (arith, sender .ensures .plus-is, sender .ensures .minus-is))));
       differs = λ e. absurd (true≢false e);
       agrees = λ e. absurd (true≢false e);
     }
@@ -50,7 +49,7 @@ returns-3 c =
     let U = start .args .uppers .now in
     let L = start .args .lowers .now in
     let σ = sendingOf g t (start .args .j) .tuple in
-    let slot = seek .ensures ∙ ap (slotOf U L) (sender .ensures .tuple-is (if1 .left)) in
+    let slot = sought-held U L σ (seek .result) (rw (sender .ensures .tuple-is (if1 .left)) at (seek .ensures)) (if2 .left) in
     let count = start .pre .1 .1 .1 (seek .result) (if2 .left) in
     record {
       missing = λ e. absurd (false≢true e);

@@ -8,8 +8,8 @@ use native.Mathlib.Omega.{arith}
 use Rattle.rules.specs.Sizes.{given, tables}
 use Rattle.judged.specs.First.{first}
 use Rattle.parts.proofs.Walks.{Walk, begins-at, goes-past, finds}
-use Rattle.senders.specs.Senders.{senders, equalAt}
-use Rattle.senders.specs.Window.{Holds}
+use Rattle.windows.specs.Senders.{senders, equalAt}
+use Rattle.windows.specs.Window.{Holds}
 use Rattle.windows.proofs.window.look.Statement.{statement}
 use Rattle.windows.proofs.window.look.Tie as tie
 

@@ -1,6 +1,6 @@
 -- The tests of what the bus is handed say just that.
 -- Assumes nothing.
-use mathlib.Core.Path.{_≡_, sym, _∙_}
+use mathlib.Core.Path.{_≡_}
 use mathlib.Core.Bool.{true, false}
 use mathlib.Core.List.{List, [], _∷_}
 use Prim.Native.Nat.{ℕ, _*_, _/_}
@@ -15,7 +15,7 @@ use Rattle.rules.specs.Sizes.{given, tables}
 use Rattle.answer.specs.declared.Answer.the-variants.{Bus}
 use Rattle.judged.specs.Judged.{bus}
 use Rattle.judged.proofs.FirstLaws.{first-none, first-past}
-use Rattle.senders.specs.Bus.{Short, Formed, Flags, Flagged, formedAt, flags, firstUnformed, firstUnflagged, countable, countedBus}
+use Rattle.windows.specs.Bus.{Short, Formed, Flags, Flagged, formedAt, flags, firstUnformed, firstUnflagged, countable, countedBus}
 
 flags-hold : (x : Ext) → Flags x → flags x ≡ true
 flags-hold x f = rw (le-leb _ _ (f .start-bit), le-leb _ _ (f .add-bit), le-leb _ _ (f .mul-bit), le-leb _ _ (f .peq-bit))

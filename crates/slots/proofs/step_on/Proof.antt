@@ -2,9 +2,9 @@
 use borrow.Author.Needs.{needs}
 use mathlib.Core.Path.{sym, _∙_}
 use native.Mathlib.Omega.{arith}
-use Rattle.senders.specs.Window.{stepped}
-use Rattle.windows.proofs.seek.step_on.Statement.{statement}
-use Rattle.windows.proofs.seek.step_on.Tie as tie
+use Rattle.slots.specs.Slots.{stepped}
+use Rattle.slots.proofs.step_on.Statement.{statement}
+use Rattle.slots.proofs.step_on.Tie as tie
 
 returns : tie.Need-returns
 unfolding stepped

@@ -3,8 +3,8 @@ use borrow.Author.Needs.{needs}
 use mathlib.Core.Path.{ap, _∙_}
 use Rattle.rules.specs.Bus.{sameTuple}
 use Rattle.tuples.specs.Sent.{tupleOf}
-use Rattle.windows.proofs.seek.holds.Statement.{statement}
-use Rattle.windows.proofs.seek.holds.Tie as tie
+use Rattle.slots.proofs.holds.Statement.{statement}
+use Rattle.slots.proofs.holds.Tie as tie
 
 returns : tie.Need-returns
 returns c =

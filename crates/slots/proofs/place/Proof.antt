@@ -3,10 +3,10 @@ use borrow.Author.Needs.{needs}
 use mathlib.Core.Path.{_≡_, refl, sym, _∙_}
 use Prim.Native.Nat.{_+_, _*_, _≤_, _<_}
 use native.Mathlib.Omega.{arith}
-use Rattle.senders.specs.Window.{descended, placeOf}
-use Rattle.senders.proofs.Windows.{steps-on, steps-end}
-use Rattle.windows.proofs.seek.place.Statement.{statement}
-use Rattle.windows.proofs.seek.place.Tie as tie
+use Rattle.slots.specs.Slots.{descended, placeOf}
+use Rattle.slots.proofs.Slots.{steps-on, steps-end}
+use Rattle.slots.proofs.place.Statement.{statement}
+use Rattle.slots.proofs.place.Tie as tie
 
 abbrev Inv-loop : tie.InvT-loop
 Inv-loop uppers lowers upper lower at₀ step₀ k₀ at step k =
@@ -28,10 +28,10 @@ returns : tie.Need-returns Inv-loop μ-loop
 unfolding placeOf
 returns c =
     let loop = c .before .loop in
-    let lower-of = c .before .before .lower-of in
-    let upper-of = c .before .before .before .upper-of in
+    let lower = c .before .before .joined2 in
+    let upper = c .before .before .before .joined in
     let found = loop .inv .2 ∙ steps-end _ _ _ _ (loop .k) (loop .at) (loop .step) (omega arith) in
-    (sym (rw (upper-of .ensures .0, lower-of .ensures .0) at found), omega arith)
+    (sym (rw (upper .ensures .0, lower .ensures .0) at found), omega arith)
 
 pub place-spec : {M : Type 1} → statement M
 place-spec =

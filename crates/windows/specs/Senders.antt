@@ -5,8 +5,10 @@ use Prim.Native.Nat.{ℕ, _+_, _-_, _≤_, _<_}
 use lib.Dec.{ltb}
 use Rattle.rules.specs.Given.{Given, Tables, zero?}
 use Rattle.rules.specs.Bus.{Tuple, pushed, pushes, pulled, pulls, instructionOf, balanced}
+use Rattle.judged.specs.First.{first}
 use Rattle.tuples.specs.Sent.{tupleOf}
-use Rattle.senders.specs.declared.Tally.{Tally}
+use Rattle.windows.specs.declared.Tally.{Tally}
+use Rattle.windows.specs.declared.Looked.{Looked}
 
 -- a tuple, how often it is pushed, and how often it is pulled
 pub record Sending : Type 0 where
@@ -42,3 +44,10 @@ pub record Reads (x : Tally) (s : Sending) : Type 0 where
 -- a sender that sends nothing, or whose tuple is pushed as often as it is pulled
 unfoldable pub equalAt : Given → Tables → ℕ → Bool
 equalAt g t j = zero? (sendingOf g t j .plus + sendingOf g t j .minus) || balanced g t (sendingOf g t j .tuple)
+
+-- what a look at the senders from one on says: the first whose tuple is unequal, or a later one with none before it
+pub record LooksFrom (g : Given) (t : Tables) (from : ℕ) (r : Looked) : Type 0 where
+  pub refuses : r .unequal ≡ true → r .at ≡ first (equalAt g t) from (senders t - from)
+  pub goes : r .unequal ≡ false → from < r .at
+  pub within : r .at ≤ senders t
+  pub left : r .unequal ≡ false → first (equalAt g t) from (senders t - from) ≡ first (equalAt g t) (r .at) (senders t - r .at)

@@ -11,8 +11,8 @@ use Rattle.judged.specs.First.{first}
 use Rattle.judged.specs.Judged.{pushBalanced, pullBalanced, firstPush, firstPull}
 use Rattle.judged.proofs.FirstLaws.{first-before, first-fails, first-found, first-none}
 use Rattle.tuples.proofs.Totals.{total-same}
-use Rattle.senders.specs.declared.Tally.{Tally}
-use Rattle.senders.specs.Senders.{Sending, pushSent, pullSent, sendingOf, equalAt, Reads}
+use Rattle.windows.specs.declared.Tally.{Tally}
+use Rattle.windows.specs.Senders.{Sending, pushSent, pullSent, sendingOf, equalAt, Reads}
 
 -- totals of two sequences, one after the other
 pub total-join : (f a b : ℕ → ℕ) (h k : ℕ) → ((r : ℕ) → r < h → f r ≡ a r) → ((r : ℕ) → r < k → f (h + r) ≡ b r)

@@ -1,4 +1,4 @@
-// Where a window of 1024 slots holds a tuple. A slot is a number of `upper` and one of `lower`; slots 1 to 1023 are kept sorted, and those
+// Where a window of 1024 slots holds a tuple, and where it belongs if none does. A slot is a number of `upper` and one of `lower`; slots 1 to 1023 are kept sorted, and those
 // not used are above every tuple. Nothing is proved of the order: a slot that is found holds the tuple, and the same tuple is always
 // found in the same slot, which is all that counting needs.
 use tuples::Sent;
@@ -8,25 +8,13 @@ ghost use mathlib.Core.Path.{_≡_};
 ghost use Prim.Native.Nat.{_+_, _*_, _/_, _%_, _<_, _≤_};
 ghost use Rattle.rules.specs.Bus.{sameTuple};
 ghost use Rattle.tuples.specs.Sent.{tupleOf};
-ghost use Rattle.senders.specs.Window.{tupleAt, atMost, stepped, placeOf, slotOf};
+ghost use Rattle.slots.specs.Slots.{tupleAt, atMost, stepped, placeOf, soughtOf};
 
 // Two words in a number.
-fn joined(high: u32, low: u32) -> u64
+pub fn joined(high: u32, low: u32) -> u64
     ensures { λ r. ⌜ (r ≡ high * 4294967296 + low) × (r / 4294967296 ≡ high) × (r % 4294967296 ≡ low) ⌝ }
 {
     4294967296 * wide(high) + wide(low)
-}
-
-pub fn upper_of(t: Sent) -> u64
-    ensures { λ r. ⌜ (r ≡ t .aux * 4294967296 + t .left) × (r / 4294967296 ≡ t .aux) × (r % 4294967296 ≡ t .left) ⌝ }
-{
-    joined(t.aux, t.left)
-}
-
-pub fn lower_of(t: Sent) -> u64
-    ensures { λ r. ⌜ (r ≡ t .right * 4294967296 + t .out) × (r / 4294967296 ≡ t .right) × (r % 4294967296 ≡ t .out) ⌝ }
-{
-    joined(t.right, t.out)
 }
 
 // The tuple of a slot.
@@ -72,11 +60,11 @@ fn step_on(
 }
 
 // The last of the sorted slots that is at most the tuple; 0 where none is.
-pub fn place(uppers: &[u64; 1024], lowers: &[u64; 1024], t: Sent) -> usize
+fn place(uppers: &[u64; 1024], lowers: &[u64; 1024], t: Sent) -> usize
     ensures { λ r. ⌜ (r ≡ placeOf (now (uppers .entry)) (now (lowers .entry)) (tupleOf t)) × (r < 1024) ⌝ }
 {
-    let upper = upper_of(t);
-    let lower = lower_of(t);
+    let upper = joined(t.aux, t.left);
+    let lower = joined(t.right, t.out);
     let mut at = 0;
     let mut step = 512;
     let mut k: usize = 10;
@@ -95,9 +83,9 @@ fn holds(uppers: &[u64; 1024], lowers: &[u64; 1024], at: usize, t: Sent) -> bool
     same(tuple_of(uppers[at], lowers[at]), t)
 }
 
-// The slot that holds a tuple; 1024 where none does.
+// The slot that holds a tuple; where none does, 1024 more than the place after which it belongs.
 pub fn seek(uppers: &[u64; 1024], lowers: &[u64; 1024], t: Sent) -> usize
-    ensures { λ r. ⌜ r ≡ slotOf (now (uppers .entry)) (now (lowers .entry)) (tupleOf t) ⌝ }
+    ensures { λ r. ⌜ r ≡ soughtOf (now (uppers .entry)) (now (lowers .entry)) (tupleOf t) ⌝ }
 {
     if holds(uppers, lowers, 0, t) {
         return 0;
@@ -106,5 +94,5 @@ pub fn seek(uppers: &[u64; 1024], lowers: &[u64; 1024], t: Sent) -> usize
     if holds(uppers, lowers, at, t) {
         return at;
     }
-    1024
+    1024 + at
 }

@@ -2,14 +2,14 @@
 -- Assumes nothing.
 use mathlib.Core.Path.{_≡_, sym}
 use mathlib.Core.Bool.{Bool, true, false, not}
-use Prim.Native.Nat.{ℕ, _+_, _*_, _≤_}
+use Prim.Native.Nat.{ℕ, _+_, _≤_}
 use native.Mathlib.Nat.{mul-le-mul-right}
 use native.Mathlib.Omega.{arith}
 use borrow.Author.Tests.{not-true, not-false}
 use Rattle.rows.specs.declared.Ext.{Ext}
 use Rattle.rules.specs.Given.{either}
 use Rattle.rules.specs.Bus.{pulls}
-use Rattle.senders.specs.Bus.{Flags}
+use Rattle.windows.specs.Bus.{Flags}
 
 -- what the code finds says how often
 pub no-push : (b : Bool) {n : ℕ} → either b 1 0 ≡ n → not b ≡ true → n ≡ 0

@@ -1,0 +1,2 @@
+pub mod Balances
+pub mod Passed

@@ -1,3 +1,0 @@
-pub mod Bus
-pub mod Senders
-pub mod Window
