@@ -1,5 +1,2 @@
-pub mod Tuples
 pub mod Balances
 pub mod Passed
-pub mod Joined
-pub mod Windows

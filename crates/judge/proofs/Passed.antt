@@ -23,7 +23,7 @@ use Rattle.judged.proofs.FirstLaws.{first-past}
 use Rattle.judged.proofs.RuleLaws.{failing-holds, exec-numbered, ext-numbered}
 use Rattle.rules.specs.Sizes.{given, tables}
 use Rattle.parts.specs.Words.{WellFormed}
-use Rattle.judge.specs.Bus.{Formed, Flagged}
+use Rattle.windows.specs.Bus.{Formed, Flagged}
 
 pub all-words : (bytes : List ℕ) (m : ℕ) → m ≡ firstWord bytes → length bytes / 4 ≤ m → Words bytes
 all-words bytes m e past k h = ltb-true (wordOf bytes k) p (first-past (isWord bytes) (length bytes / 4) (rw e at past) k h)

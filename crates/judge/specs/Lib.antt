@@ -1,4 +1,1 @@
 pub mod Stages
-pub mod Bus
-pub mod Senders
-pub mod Window

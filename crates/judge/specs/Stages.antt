@@ -1,7 +1,7 @@
 -- The judge's stages over bytes, by the definitions of `rules` and `judged`.
 use mathlib.Core.Path.{_≡_}
 use mathlib.Core.List.{List, []}
-use Prim.Native.Nat.{ℕ, _/_, _^_, _≤_, _<_}
+use Prim.Native.Nat.{ℕ, _/_, _≤_}
 use lib.ListN.{length}
 use Rattle.answer.specs.declared.Answer.{Answer}
 use Rattle.rules.specs.Sizes.{given, tables}
@@ -9,10 +9,6 @@ use Rattle.judged.specs.Judged.{words, instructions, start, execution, extensio
 use Rattle.parts.specs.Words.{WellFormed}
 use Rattle.tuples.specs.Order.{InOrder}
 use Rattle.judge.specs.declared.Seen.{Seen}
-
--- a length that leaves every place in 32 bits, as each that fits does
-abbrev pub Short : List ℕ → Type 0
-Short bytes = length bytes < 2 ^ 32
 
 -- what the walks over the program and both tables found: the first instruction and rows that fail, and up to where the pulls are what was pushed
 pub record Sees (program memory exec ext : List ℕ) (s : Seen) : Type 0 where

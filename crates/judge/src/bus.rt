@@ -1,9 +1,9 @@
 // 7 BUS: where the walk over the execution rows settled every push, as in a tabler's tables, it is enough that no pull is left. Rounds settle more
 // groups than that walk has slots for. What is left, as every refusal is, is counted.
-use crate::window::first_unequal;
 use answer::Answer;
 use paired::pairs_up;
 use tuples::next_pull;
+use windows::count_bus;
 ghost use mathlib.Core.Path.{_≡_};
 ghost use mathlib.Core.List.{[]};
 ghost use Prim.Native.Nat.{_/_, _≤_};
@@ -11,32 +11,7 @@ ghost use lib.ListN.{length};
 ghost use Rattle.judged.specs.Judged.{bus};
 ghost use Rattle.rules.specs.Sizes.{given, tables};
 ghost use Rattle.tuples.specs.Order.{InOrder};
-ghost use Rattle.judge.specs.Stages.{Short};
-ghost use Rattle.judge.specs.Bus.{Formed, Flagged};
-
-fn counted(program: &[u8], exec: &[u8], ext: &[u8]) -> Answer
-    requires { ⌜ Formed (now program) (now exec) ⌝ }
-    requires { ⌜ Flagged (now ext) ⌝ }
-    requires { ⌜ Short (now exec) × Short (now ext) ⌝ }
-    ensures { λ r. ⌜ r ≡ bus (given (now (program .entry)) []) (tables (now (exec .entry)) (now (ext .entry))) ⌝ }
-{
-    let h = exec.len() / 32;
-    let j = first_unequal(program, exec, ext);
-    if j < h {
-        return Answer::Bus {
-            part: 3,
-            row: j as u32,
-        };
-    }
-    let k = j - h;
-    if k < ext.len() / 120 {
-        return Answer::Bus {
-            part: 4,
-            row: k as u32,
-        };
-    }
-    Answer::Accepted
-}
+ghost use Rattle.windows.specs.Bus.{Formed, Flagged, Short};
 
 pub fn bus_answer(program: &[u8], exec: &[u8], ext: &[u8], pulled: usize) -> Answer
     requires { ⌜ Formed (now program) (now exec) ⌝ }
@@ -49,7 +24,7 @@ pub fn bus_answer(program: &[u8], exec: &[u8], ext: &[u8], pulled: usize) -> Ans
         return Answer::Accepted;
     }
     if !pairs_up(program, exec, ext) {
-        return counted(program, exec, ext);
+        return count_bus(program, exec, ext);
     }
     Answer::Accepted
 }

@@ -1,16 +1,10 @@
 // The judge: a program, a memory, a start and two tables, to an answer. It writes nothing.
 mod bus;
-mod choose;
-mod seek;
-mod sender;
 mod stage;
-mod tuple;
-mod window;
 
 use answer::Answer;
 use parts::bad_part;
 use stage::words_answer;
-use tuples::Sent;
 ghost use mathlib.Core.Path.{_≡_};
 ghost use Rattle.judged.specs.Judged.{judgeOf};
 
@@ -21,25 +15,6 @@ struct Seen {
     exec: usize,
     ext: usize,
     pulled: usize,
-}
-
-// A tuple, how often it is pushed, and how often it is pulled.
-struct Tally {
-    plus: u32,
-    minus: u32,
-    sent: Sent,
-}
-
-// What the counts say of a sender: that its tuple was not counted, or that it is unequal.
-struct Found {
-    absent: bool,
-    unequal: bool,
-}
-
-// What a look at the senders says: the first whose tuple is unequal, or else where to look next.
-struct Looked {
-    at: usize,
-    unequal: bool,
 }
 
 // The judge. SIZE comes first; what is left is words_answer's.

@@ -17,7 +17,8 @@ ghost use Prim.Native.Nat.{_<_, _^_};
 ghost use Rattle.rules.specs.Satisfies.{Words};
 ghost use Rattle.judged.specs.Judged.{firstWord};
 ghost use Rattle.parts.specs.Words.{AllWords, WellFormed};
-ghost use Rattle.judge.specs.Stages.{wordsOf, programOf, rulesOf, Short, Sees};
+ghost use Rattle.windows.specs.Bus.{Short};
+ghost use Rattle.judge.specs.Stages.{wordsOf, programOf, rulesOf, Sees};
 
 // 5 EXEC, 6 EXTENSION and 7 BUS.
 fn rules_answer(program: &[u8], memory: &[u8], exec: &[u8], ext: &[u8], seen: Seen) -> Answer

@@ -8,6 +8,7 @@ use lib.ListN.{length}
 use Rattle.rules.specs.Bus.{pulledTo}
 use Rattle.rules.specs.Sizes.{given, tables}
 use Rattle.judge.proofs.Balances.{all-equal}
+use Rattle.windows.proofs.Countable.{counts}
 use borrow.Author.Needs.{needs}
 use Rattle.judge.proofs.bus.bus_answer.Statement.{statement}
 use Rattle.judge.proofs.bus.bus_answer.Tie as tie
@@ -24,6 +25,13 @@ returns c =
     ∙ sym (left .ensures .1 σ)
     ∙ ap (pulledTo (tables [] ext) σ) all)
 
+returns-2 : tie.Need-returns-2
+returns-2 c =
+    let start = c .before .before .before .before .before .before .before .before in
+    c .count-bus .ensures
+    ∙ counts _ _ _
+    (record { exec-short = start .pre .1 .1 .0 .0; ext-short = start .pre .1 .1 .0 .1; formed = start .pre .0; flagged = start .pre .1 .0 })
+
 returns-3 : tie.Need-returns-3
 returns-3 c =
     let start = c .before .before .before .before .before .before .before in
@@ -39,5 +47,5 @@ bus-answer-spec =
     returns
     (λ c κs. search needs)
     (λ c κs. search needs)
-    (λ c. search needs)
+    returns-2
     returns-3)

@@ -1,0 +1,4 @@
+pub mod Tuples
+pub mod Countable
+pub mod Joined
+pub mod Windows

@@ -1,0 +1,12 @@
+-- Each test is the definition's.
+use borrow.Author.Needs.{needs}
+use Rattle.windows.specs.Bus.{countable}
+use Rattle.windows.proofs.ready.countable.Statement.{statement}
+use Rattle.windows.proofs.ready.countable.Tie as tie
+
+returns : tie.Need-returns
+unfolding countable
+returns c = rw (c .before .first-unformed .ensures, c .first-unflagged .ensures)
+
+pub countable-spec : {M : Type 1} → statement M
+countable-spec = tie.close (tie.spec (λ c κs. search needs) (λ c κs. search needs) returns)
