@@ -15,7 +15,7 @@ use Rattle.rules.specs.Sizes.{given, tables}
 use Rattle.answer.specs.declared.Answer.the-variants.{Bus}
 use Rattle.judged.specs.Judged.{bus}
 use Rattle.judged.proofs.FirstLaws.{first-none, first-past}
-use Rattle.windows.specs.Bus.{Short, Formed, Flags, Flagged, formedAt, flags, firstUnformed, firstUnflagged, countable, countedBus}
+use Rattle.windows.specs.Bus.{Short, Coded, Flags, Flagged, codedAt, flags, firstUncoded, firstUnflagged, countable, countedBus}
 
 flags-hold : (x : Ext) → Flags x → flags x ≡ true
 flags-hold x f = rw (le-leb _ _ (f .start-bit), le-leb _ _ (f .add-bit), le-leb _ _ (f .mul-bit), le-leb _ _ (f .peq-bit))
@@ -29,7 +29,7 @@ flags-held x e =
 pub record Left (program exec ext : List ℕ) : Type 0 where
   pub exec-short : Short exec
   pub ext-short : Short ext
-  pub formed : Formed program exec
+  pub is-coded : Coded program exec
   pub flagged : Flagged ext
 
 module _ (program exec ext : List ℕ) where
@@ -38,23 +38,23 @@ module _ (program exec ext : List ℕ) where
   can-count e =
       let all =
       each (ltb (length exec) 4294967296)
-      (ltb (length ext) 4294967296 ∷ leb (length exec / 32) (firstUnformed program exec) ∷ leb (length ext / 120) (firstUnflagged ext) ∷ []) e in
+      (ltb (length ext) 4294967296 ∷ leb (length exec / 32) (firstUncoded program exec) ∷ leb (length ext / 120) (firstUnflagged ext) ∷ []) e in
       record {
         exec-short = ltb-true _ _ (all .0);
         ext-short = ltb-true _ _ (all .1 .0);
-        formed = first-past (formedAt program exec) (length exec / 32) (leb-true _ _ (all .1 .1 .0));
+        is-coded = first-past (codedAt program exec) (length exec / 32) (leb-true _ _ (all .1 .1 .0));
         flagged = λ k h. flags-held _ (first-past (λ n. flags (extAt ext (120 * n))) (length ext / 120) (leb-true _ _ (all .1 .1 .1)) k h);
       }
 
   is-countable : Left program exec ext → countable program exec ext ≡ true
   unfolding countable
   is-countable left =
-      let rows = first-none (formedAt program exec) (length exec / 32) .1 (left .formed) in
+      let rows = first-none (codedAt program exec) (length exec / 32) .1 (left .is-coded) in
       let groups = first-none (λ n. flags (extAt ext (120 * n))) (length ext / 120) .1 (λ k h. flags-hold _ (left .flagged k h)) in
       rw (
         lt-ltb (length exec) 4294967296 (left .exec-short),
         lt-ltb (length ext) 4294967296 (left .ext-short),
-        le-leb (length exec / 32) (firstUnformed program exec) (omega (arith, rows)),
+        le-leb (length exec / 32) (firstUncoded program exec) (omega (arith, rows)),
         le-leb (length ext / 120) (firstUnflagged ext) (omega (arith, groups)),
       )
 

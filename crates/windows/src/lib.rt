@@ -13,7 +13,7 @@ ghost use mathlib.Core.Path.{_≡_};
 ghost use mathlib.Core.List.{[]};
 ghost use Rattle.judged.specs.Judged.{bus};
 ghost use Rattle.rules.specs.Sizes.{given, tables};
-ghost use Rattle.windows.specs.Bus.{Formed, Flagged, Short, countedBus};
+ghost use Rattle.windows.specs.Bus.{Coded, Flagged, Short, countedBus};
 
 // A tuple, how often it is pushed, and how often it is pulled.
 struct Tally {
@@ -36,7 +36,7 @@ struct Looked {
 
 // The row that is unequal, in the table it stands in.
 fn answered(program: &[u8], exec: &[u8], ext: &[u8]) -> Answer
-    requires { ⌜ Formed (now program) (now exec) ⌝ }
+    requires { ⌜ Coded (now program) (now exec) ⌝ }
     requires { ⌜ Flagged (now ext) ⌝ }
     requires { ⌜ Short (now exec) × Short (now ext) ⌝ }
     ensures { λ r. ⌜ r ≡ bus (given (now (program .entry)) []) (tables (now (exec .entry)) (now (ext .entry))) ⌝ }

@@ -1,19 +1,40 @@
-// Whether tables are as the stages before the bus leave them, by one look at each row.
-use crate::tuple::instruction_of;
-use crate::tuple::row_of;
-use form::well_formed;
-use rows::Ext;
+// Whether tables are as the stages before the bus leave them, by one look at each row. Only the words that are asked about are read.
+use form::Instruction;
+use form::instruction_at;
+use word::word_at;
 ghost use mathlib.Core.Path.{_≡_};
-ghost use Rattle.windows.specs.Bus.{flags, firstUnformed, firstUnflagged, countable};
+ghost use Prim.Native.Nat.{_*_, _/_, _<_};
+ghost use lib.ListN.{length};
+ghost use Rattle.rows.specs.Rows.{extAt};
+ghost use Rattle.windows.specs.Bus.{coded, codedAt, flags, firstUncoded, firstUnflagged, countable};
 
-// The first execution row whose instruction is malformed; their number where there is none.
-fn first_unformed(program: &[u8], exec: &[u8]) -> usize
-    ensures { λ r. ⌜ r ≡ firstUnformed (now (program .entry)) (now (exec .entry)) ⌝ }
+// By the opcode words alone: what else is malformed changes no count.
+fn has_code(i: Instruction) -> bool
+    ensures { λ b. ⌜ b ≡ coded i ⌝ }
+{
+    ((i.mul == 0) & (i.jump == 0) & (i.aux == 0))
+        | ((i.mul == 0) & (i.jump == 0) & (i.aux == 1))
+        | ((i.mul == 0) & (i.jump == 0) & (i.aux == 2))
+        | ((i.mul == 1) & (i.jump == 0) & (i.aux == 0))
+        | ((i.mul == 0) & (i.jump == 1) & (i.aux == 0))
+}
+
+fn row_coded(program: &[u8], exec: &[u8], r: usize) -> bool
+    requires { ⌜ r < length (now exec) / 32 ⌝ }
+    ensures { λ b. ⌜ b ≡ codedAt (now (program .entry)) (now (exec .entry)) r ⌝ }
+{
+    let pc = word_at(exec, 32 * r);
+    has_code(instruction_at(program, 48 * (pc as usize)))
+}
+
+// The first execution row whose opcode words are no kind's; their number where there is none.
+fn first_uncoded(program: &[u8], exec: &[u8]) -> usize
+    ensures { λ r. ⌜ r ≡ firstUncoded (now (program .entry)) (now (exec .entry)) ⌝ }
 {
     let n = exec.len() / 32;
     let mut r = 0;
     while r < n {
-        if !well_formed(instruction_of(program, exec, r)) {
+        if !row_coded(program, exec, r) {
             return r;
         }
         r += 1;
@@ -21,10 +42,15 @@ fn first_unformed(program: &[u8], exec: &[u8]) -> usize
     r
 }
 
-fn has_flags(x: Ext) -> bool
-    ensures { λ b. ⌜ b ≡ flags x ⌝ }
+fn row_flagged(ext: &[u8], k: usize) -> bool
+    requires { ⌜ k < length (now ext) / 120 ⌝ }
+    ensures { λ b. ⌜ b ≡ flags (extAt (now (ext .entry)) (120 * k)) ⌝ }
 {
-    (x.start <= 1) & (x.add <= 1) & (x.mul <= 1) & (x.peq <= 1)
+    let at = 120 * k;
+    (word_at(ext, at) <= 1)
+        & (word_at(ext, at + 4) <= 1)
+        & (word_at(ext, at + 8) <= 1)
+        & (word_at(ext, at + 12) <= 1)
 }
 
 // The first extension row with a flag above 1; their number where there is none.
@@ -34,7 +60,7 @@ fn first_unflagged(ext: &[u8]) -> usize
     let n = ext.len() / 120;
     let mut k = 0;
     while k < n {
-        if !has_flags(row_of(ext, k)) {
+        if !row_flagged(ext, k) {
             return k;
         }
         k += 1;
@@ -47,6 +73,6 @@ pub fn countable(program: &[u8], exec: &[u8], ext: &[u8]) -> bool
 {
     (exec.len() < 4294967296)
         & (ext.len() < 4294967296)
-        & (exec.len() / 32 <= first_unformed(program, exec))
+        & (exec.len() / 32 <= first_uncoded(program, exec))
         & (ext.len() / 120 <= first_unflagged(ext))
 }

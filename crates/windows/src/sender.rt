@@ -12,12 +12,12 @@ ghost use mathlib.Core.List.{[]};
 ghost use Prim.Native.Nat.{_+_, _/_, _<_};
 ghost use lib.ListN.{length};
 ghost use Rattle.rules.specs.Sizes.{given, tables};
-ghost use Rattle.windows.specs.Bus.{Formed, Flagged};
+ghost use Rattle.windows.specs.Bus.{Coded, Flagged};
 ghost use Rattle.windows.specs.Senders.{pushSent, pullSent, sendingOf, Reads};
 
 // Execution row r. Most rows push nothing: of those no tuple is made.
 fn pusher(program: &[u8], exec: &[u8], r: usize) -> Tally
-    requires { ⌜ Formed (now program) (now exec) ⌝ }
+    requires { ⌜ Coded (now program) (now exec) ⌝ }
     requires { ⌜ r < length (now exec) / 32 ⌝ }
     ensures { λ x. ⌜ Reads x (pushSent (given (now (program .entry)) []) (tables (now (exec .entry)) []) r) ⌝ }
 {
@@ -59,7 +59,7 @@ fn puller(ext: &[u8], k: usize) -> Tally
 }
 
 pub fn sender(program: &[u8], exec: &[u8], ext: &[u8], j: usize) -> Tally
-    requires { ⌜ Formed (now program) (now exec) ⌝ }
+    requires { ⌜ Coded (now program) (now exec) ⌝ }
     requires { ⌜ Flagged (now ext) ⌝ }
     requires { ⌜ j < length (now exec) / 32 + length (now ext) / 120 ⌝ }
     ensures { λ x. ⌜ Reads x (sendingOf (given (now (program .entry)) []) (tables (now (exec .entry)) (now (ext .entry))) j) ⌝ }

@@ -12,7 +12,7 @@ ghost use Rattle.rows.specs.Rows.{extAt};
 ghost use Rattle.rules.specs.Given.{either};
 ghost use Rattle.rules.specs.Bus.{pushes, pulls, instructionOf};
 ghost use Rattle.rules.specs.Sizes.{given, tables};
-ghost use Rattle.windows.specs.Bus.{Formed, Flags};
+ghost use Rattle.windows.specs.Bus.{Coded, Flags};
 
 // The instruction of execution row r, of which only pc is read.
 pub fn instruction_of(program: &[u8], exec: &[u8], r: usize) -> Instruction
@@ -26,7 +26,7 @@ pub fn instruction_of(program: &[u8], exec: &[u8], r: usize) -> Instruction
 // Whether execution row r pushes: a well-formed instruction with no opcode word is a precompile and pushes once; any other doesn't
 // push.
 pub fn pushing(program: &[u8], exec: &[u8], r: usize) -> bool
-    requires { ⌜ Formed (now program) (now exec) ⌝ }
+    requires { ⌜ Coded (now program) (now exec) ⌝ }
     requires { ⌜ r < length (now exec) / 32 ⌝ }
     ensures { λ b. ⌜ either b 1 0 ≡ pushes (instructionOf (given (now (program .entry)) []) (tables (now (exec .entry)) []) r) ⌝ }
 {

@@ -12,7 +12,7 @@ returns c = sym (counts-not _ _ _ (sym (c .before .countable .ensures) ∙ not-t
 answered-requires : tie.Need-answered-requires
 answered-requires c κs =
     let left = can-count _ _ _ (sym (c .before .countable .ensures) ∙ not-false _ (c .if1 .left)) in
-    (left .formed, (left .flagged, (left .exec-short, left .ext-short)))
+    (left .is-coded, (left .flagged, (left .exec-short, left .ext-short)))
 
 returns-2 : tie.Need-returns-2
 returns-2 c =

@@ -5,10 +5,11 @@ use mathlib.Core.Path.{_≡_, sym, ap, _∙_}
 use Prim.Native.Nat.{_/_}
 use native.Mathlib.Omega.{arith}
 use lib.ListN.{length}
-use Rattle.rules.specs.Bus.{pulledTo}
+use Rattle.rules.specs.Bus.{pulledTo, instructionOf}
 use Rattle.rules.specs.Sizes.{given, tables}
 use Rattle.judge.proofs.Balances.{all-equal}
 use Rattle.windows.proofs.Countable.{counts}
+use Rattle.windows.proofs.Tuples.{formed-coded}
 use borrow.Author.Needs.{needs}
 use Rattle.judge.proofs.bus.bus_answer.Statement.{statement}
 use Rattle.judge.proofs.bus.bus_answer.Tie as tie
@@ -28,9 +29,16 @@ returns c =
 returns-2 : tie.Need-returns-2
 returns-2 c =
     let start = c .before .before .before .before .before .before .before .before in
+    let g = given (start .args .program .now) [] in
+    let t = tables (start .args .exec .now) [] in
     c .count-bus .ensures
     ∙ counts _ _ _
-    (record { exec-short = start .pre .1 .1 .0 .0; ext-short = start .pre .1 .1 .0 .1; formed = start .pre .0; flagged = start .pre .1 .0 })
+    (record {
+      exec-short = start .pre .1 .1 .0 .0;
+      ext-short = start .pre .1 .1 .0 .1;
+      is-coded = λ r h. formed-coded (instructionOf g t r) (start .pre .0 r h);
+      flagged = start .pre .1 .0;
+    })
 
 returns-3 : tie.Need-returns-3
 returns-3 c =

@@ -6,7 +6,7 @@ use Rattle.windows.proofs.ready.countable.Tie as tie
 
 returns : tie.Need-returns
 unfolding countable
-returns c = rw (c .before .first-unformed .ensures, c .first-unflagged .ensures)
+returns c = rw (c .before .first-uncoded .ensures, c .first-unflagged .ensures)
 
 pub countable-spec : {M : Type 1} → statement M
 countable-spec = tie.close (tie.spec (λ c κs. search needs) (λ c κs. search needs) returns)

@@ -21,14 +21,10 @@ loop-holds : tie.Need-loop-holds Inv-loop μ-loop
 loop-holds c = (refl, begins _ _)
 
 returns : tie.Need-returns Inv-loop μ-loop
-returns c =
-    let has = rw (c .before .before .row-of .ensures) at (c .before .has-flags .ensures) in
-    finds (c .before .before .before .before .loop .inv .1) (omega arith) (sym has ∙ not-true _ (c .if1 .taken))
+returns c = finds (c .before .before .before .loop .inv .1) (omega arith) (sym (c .before .row-flagged .ensures) ∙ not-true _ (c .if1 .taken))
 
 loop-again : tie.Need-loop-again Inv-loop μ-loop
-loop-again c =
-    let has = rw (c .before .before .row-of .ensures) at (c .before .has-flags .ensures) in
-    (refl, goes-past (c .before .before .before .before .loop .inv .1) (omega arith) (sym has ∙ not-false _ (c .if1 .left)))
+loop-again c = (refl, goes-past (c .before .before .before .loop .inv .1) (omega arith) (sym (c .before .row-flagged .ensures) ∙ not-false _ (c .if1 .left)))
 
 returns-2 : tie.Need-returns-2 Inv-loop μ-loop
 returns-2 c = finds-none (c .before .loop .inv .1) (c .loop-test .left)
@@ -40,7 +36,6 @@ first-unflagged-spec =
     Inv-loop
     μ-loop
     loop-holds
-    (λ c κs. search needs)
     (λ c κs. search needs)
     returns
     (λ c. search needs)

@@ -4,7 +4,7 @@ use mathlib.Core.List.{[]}
 use Rattle.rows.specs.Rows.{execAt}
 use Rattle.rules.specs.Bus.{instructionOf}
 use Rattle.rules.specs.Sizes.{given, tables}
-use Rattle.tuples.proofs.Pushing.{pushes-by}
+use Rattle.windows.proofs.Tuples.{pushes-coded}
 use Rattle.windows.proofs.tuple.pushing.Statement.{statement}
 use Rattle.windows.proofs.tuple.pushing.Tie as tie
 
@@ -13,7 +13,7 @@ unfolding execAt
 returns c =
     let start = c .before .before .before .before .before .before .before in
     let i = instructionOf (given (start .args .program .now) []) (tables (start .args .exec .now) []) (start .args .r) in
-    rw (c .before .before .before .instruction-at .ensures, c .before .before .before .before .word-at .ensures) (pushes-by i (start .pre .0 (start .args .r) (start .pre .1)))
+    rw (c .before .before .before .instruction-at .ensures, c .before .before .before .before .word-at .ensures) (pushes-coded i (start .pre .0 (start .args .r) (start .pre .1)))
 
 pub pushing-spec : {M : Type 1} → statement M
 pushing-spec =
