@@ -10,7 +10,7 @@ use Rattle.rows.specs.Rows.{extAt}
 use Rattle.rules.specs.Given.{either}
 use Rattle.rules.specs.Bus.{Tuple, sameTuple, pulled, pulls, pulledTo}
 use Rattle.rules.specs.Sizes.{tables}
-use Rattle.paired.specs.Slots.{live, slotAt, heldTo, Sized, OneMore, OneLess}
+use Rattle.paired.specs.Slots.{live, slotAt, OneMore, OneLess}
 use Rattle.tuples.specs.Order.{PullsOnce}
 use Rattle.paired.specs.Settles.{backAt, backTo, Holds, InSlots, HeldBack, Settles}
 use Rattle.tuples.proofs.Totals.{one-more, total-same}
@@ -71,27 +71,22 @@ held-settles {ext} {lo} {hi} {back} {sent} k c room at held =
       in-slots = λ d few there. let is : c ≡ d = omega arith in subst (λ (c : ℕ). HeldBack ext lo hi back c sent) is held;
     }
 
--- the first i of those held back took their rows
-pub record TookBack (ext lo hi back : List ℕ) (c i : ℕ) (sent : Tuple → ℕ) : Type 0 where
-  pub size : Sized lo hi
-  pub waits : (σ : Tuple)
-      → heldTo ext 131072 lo hi σ 17203 + sent σ + backTo back σ i ≡ pulledTo (tables [] ext) σ (length ext / 120) + backTo back σ c
-
-module _ {ext lo hi back : List ℕ} {c : ℕ} {sent : Tuple → ℕ} where
-  pub took-none : HeldBack ext lo hi back c sent → TookBack ext lo hi back c 0 sent
+-- those held back take their rows one after another: where the first i did, it is as if they had been sent twice
+module _ {ext lo hi back : List ℕ} {c : ℕ} (sent : Tuple → ℕ) where
+  pub took-none : HeldBack ext lo hi back c sent → HeldBack ext lo hi back c (λ σ. sent σ + backTo back σ 0)
   unfolding backTo
   took-none held = record { size = held .size; waits = λ σ. omega (arith, held .waits σ) }
 
-  pub took-more : {lo₁ hi₁ : List ℕ} {i : ℕ} → TookBack ext lo hi back c i sent → OneLess ext 131072 (backAt back i) lo hi lo₁ hi₁
-      → TookBack ext lo₁ hi₁ back c (i + 1) sent
+  pub took-more : {lo₁ hi₁ : List ℕ} (i : ℕ) → HeldBack ext lo hi back c (λ σ. sent σ + backTo back σ i) → OneLess ext 131072 (backAt back i) lo hi lo₁ hi₁
+      → HeldBack ext lo₁ hi₁ back c (λ σ. sent σ + backTo back σ (i + 1))
   unfolding backTo
-  took-more {i = i} took less =
+  took-more i took less =
       record {
         size = less .size;
         waits = λ σ. omega (arith, took .waits σ, less .held σ, one-more (λ j. either (sameTuple (backAt back j) σ) 1 0) i);
       }
 
-  pub took-all : TookBack ext lo hi back c c sent → InSlots ext lo hi (length ext / 120) sent
+  pub took-all : HeldBack ext lo hi back c (λ σ. sent σ + backTo back σ c) → InSlots ext lo hi (length ext / 120) sent
   took-all took = record { size = took .size; waits = λ σ. omega (arith, took .waits σ) }
 
 module _ {ext lo hi back : List ℕ} {k : ℕ} {sent : Tuple → ℕ} (settles : Settles ext lo hi back k sent) where

@@ -3,24 +3,24 @@ use mathlib.Core.Bool.{false≢true}
 use mathlib.Core.Logic.{inl}
 use mathlib.Core.Path.{_≡_, refl}
 use native.Mathlib.Omega.{arith}
-use Prim.Native.Nat.{ℕ, _-_, _≤_}
+use Prim.Native.Nat.{ℕ, _+_, _-_, _≤_}
 use borrow.Author.Needs.{needs}
 use borrow.Author.Tests.{not-false}
 use Rattle.rules.specs.Bus.{Tuple}
-use Rattle.paired.specs.Settles.{HeldBack}
-use Rattle.paired.proofs.Settling.{TookBack, took-none, took-more, took-all}
+use Rattle.paired.specs.Settles.{backTo, HeldBack}
+use Rattle.paired.proofs.Settling.{took-none, took-more, took-all}
 use Rattle.paired.proofs.hold.take_back.Statement.{statement}
 use Rattle.paired.proofs.hold.take_back.Tie as tie
 
 abbrev Inv-loop : tie.InvT-loop
 Inv-loop ext lo₀ hi₀ back c i₀ lo hi i =
-    (c ≤ 8) × (i ≤ c) × ((sent : Tuple → ℕ) → HeldBack ext lo₀ hi₀ back c sent → TookBack ext lo hi back c i sent)
+    (c ≤ 8) × (i ≤ c) × ((sent : Tuple → ℕ) → HeldBack ext lo₀ hi₀ back c sent → HeldBack ext lo hi back c (λ σ. sent σ + backTo back σ i))
 
 abbrev μ-loop : tie.MeasureT-loop
 μ-loop ext lo₀ hi₀ back c i₀ lo hi i = c - i
 
 loop-holds : tie.Need-loop-holds Inv-loop μ-loop
-loop-holds c = (c .before .pre, omega arith, λ sent held. took-none held)
+loop-holds c = (c .before .pre, omega arith, λ sent held. took-none sent held)
 
 returns : tie.Need-returns Inv-loop μ-loop
 returns c = λ e. absurd (false≢true e)
@@ -34,14 +34,14 @@ loop-again c =
       omega arith,
       λ sent back.
           let took = loop .inv .2 sent back in
-          took-more took (rw (held .ensures) at (taken .ensures (not-false _ (c .if1 .left)) (took .size))),
+          took-more sent (loop .i) took (rw (held .ensures) at (taken .ensures (not-false _ (c .if1 .left)) (took .size))),
     )
 
 returns-2 : tie.Need-returns-2 Inv-loop μ-loop
 returns-2 c =
     let loop = c .before .loop in
     let done : loop .i ≡ c .before .before .before .args .c = omega arith in
-    λ _ sent back. took-all (rw done at (loop .inv .2 sent back))
+    λ _ sent back. took-all sent (rw done at (loop .inv .2 sent back))
 
 pub take-back-spec : {M : Type 1} → statement M
 take-back-spec =
