@@ -1,64 +1,106 @@
-"""Every public function of a library crate has a promise and no `requires`, and the promise is an equation.
+"""Every public function has a contract that determines its answer and every lent byte at return.
 
-Public means exported from its crate. A promise that is no plain equation, as it has none or asks something first, is one that docs/EXCEPTIONS.md names
-in backquotes at a line's start, and argues for; a name there that needs no excuse is a fault too."""
+Public means exported from its crate. An entry, one of ENTRIES, is what a program, a C call or a customer hands bytes to: it has no `requires`.
+Every other public function is inner: it may have a `requires`, which each caller proves. Of both kinds the promise is an equation for the answer
+(of a struct: for the whole, or for each field) and one for each lent buffer's exit. A promise that is none is named in docs/EXCEPTIONS.md, in backquotes
+at a line's start, and argued for there; a name there that needs no excuse is a fault too. What no other crate needs is `pub(crate)`."""
 import pathlib
 import re
 import sys
 
 ROOT = pathlib.Path(__file__).resolve().parent.parent
-FUNCTION = re.compile(r"^\s*pub (?:extern \"C\" )?fn (\w+)")
+ENTRIES = set("""
+draw::Generator::new draw::Generator::draw draw::wrapping_product
+label::read_label label::write_label maker::make tabler::table judge::judge
+uisnabar::uisnabar_judge uisnabar::uisnabar_label replay::replay table::table_label
+test_probe::probe_table test_probe::probe_make test_probe::probe_label
+""".split())
+FUNCTION = re.compile(r"^(\s*)pub (?:extern \"C\" )?fn (\w+)")
 EXPORT = re.compile(r"^pub use [\w:]*?(\w+);$", re.M)
-EXCEPTION = re.compile(r"^- `(\w+::\w+)`", re.M)
+EXCEPTION = re.compile(r"^- `([\w:]+)`", re.M)
+STRUCT = re.compile(r"^(?:pub )?struct (\w+) \{\n(.*?)^\}", re.M | re.S)
+CLAUSE = re.compile(r"^\s*(requires|ensures) \{(.*?)\}\s*$(?=\s*(?:requires|ensures|\{|\Z))", re.M | re.S)
 
 
 def functions(text):
-    """(name, what stands between the name and the body) of each public function."""
+    """(name, contract) of each public function; a method's name has its type before it. A contract is what stands before the body."""
+    owner = ""
     lines = text.splitlines()
     for at, line in enumerate(lines):
+        if line.startswith("impl "):
+            owner = line.split()[1] + "::"
+        elif line == "}":
+            owner = ""
         found = FUNCTION.match(line)
-        if not found:
-            continue
-        contract = []
-        for later in lines[at:]:
-            contract.append(later)
-            if later.strip() == "{" or (later.endswith("{") and len(contract) == 1) or later.startswith(") -> ") and later.endswith("{"):
-                break
-        yield found[1], "\n".join(contract)
+        if found:
+            end = at
+            while not re.match(found[1] + r"(\{$|\S.*\{$|.*\) \{$)", lines[end]) or re.match(r"\s*(requires|ensures) ", lines[end]):
+                end += 1
+            yield owner + found[2], "\n".join(lines[at:end] + [lines[end].rstrip("{")])
 
 
-def faults_of(name, contract, excused, used):
-    if "requires" in contract:
-        yield f"{name} has a requires"
-    if "ensures" not in contract:
-        yield f"{name} has no ensures"
+def structs():
+    """The fields of each struct, by its name: of two of one name, those of both."""
+    fields = {}
+    for source in ROOT.glob("crates/*/src/**/*.rt"):
+        for name, body in STRUCT.findall(source.read_text()):
+            fields.setdefault(name, set()).update(re.findall(r"^    (?:pub )?(\w+):", body, re.M))
+    return fields
+
+
+def determines(promise, returned, fields):
+    """Whether the promise has an equation for an answer of this type."""
+    for binder, fact in re.findall(r"λ (\w+)\.(.*?)(?=λ \w+\. (?:do )?⌜|\Z)", promise, re.S):
+        if re.search(rf"(?:^|[\s(⌜])(?:\w+ )?{binder} ≡", fact):
+            return True
+        if fields.get(returned) and fields[returned] <= set(re.findall(rf"\b{binder} \.«?(\w+)»? ≡", fact)):
+            return True
+    return False
+
+
+def faults_of(contract, fields):
+    """What the promise leaves open."""
+    signature = re.split(r"^\s*(?:requires|ensures) ", contract, maxsplit=1, flags=re.M)[0]
+    promise = "\n".join(body for kind, body in CLAUSE.findall(contract) if kind == "ensures")
+    returned = re.search(r"\) -> (\S.*?)\s*$", signature.strip())
+    if not promise:
+        yield "has no promise"
         return
-    promise = contract[contract.index("ensures"):]
-    if "≡" in promise and "→" not in promise:
+    if "→" in promise:
+        yield "promises something only where something else holds"
         return
-    if name in excused:
-        used.add(name)
-    else:
-        yield f"{name} promises no plain equation and is not excused"
+    if returned and not determines(promise, returned[1], fields):
+        yield "has no equation for its answer"
+    for lent in re.findall(r"(\w+): &(?:'\w+ )?mut ", signature):
+        if not re.search(rf"now \({lent} \.exit\) ≡", promise):
+            yield f"has no equation for {lent} at return"
 
 
 def main():
     excused = set(EXCEPTION.findall((ROOT / "docs/EXCEPTIONS.md").read_text()))
-    seen, faults, used = 0, [], set()
+    fields, seen, faults, used = structs(), set(), [], set()
     for source in sorted(ROOT.glob("crates/*/src/**/*.rt")):
         crate = source.relative_to(ROOT / "crates").parts[0]
         library = ROOT / "crates" / crate / "src/lib.rt"
         exported = set(EXPORT.findall(library.read_text())) if library.exists() else set()
         for name, contract in functions(source.read_text()):
             whole = f"{crate}::{name}"
-            if source.name != "lib.rt" and name not in exported and whole not in excused:
-                continue  # public in its own crate alone
-            seen += 1
-            faults += faults_of(whole, contract, excused, used)
+            seen.add(whole)
+            if source.name != "lib.rt" and name not in exported and whole not in ENTRIES:
+                faults.append(f"{whole} is public, and no other crate can reach it: pub(crate)")
+                continue
+            if whole in ENTRIES and re.search(r"^\s*requires ", contract, re.M):
+                faults.append(f"{whole} is an entry and has a requires")
+            open_ends = list(faults_of(contract, fields))
+            if open_ends and whole in excused:
+                used.add(whole)
+            else:
+                faults += [f"{whole} {fault}" for fault in open_ends]
+    faults += [f"{name} is named as an entry, and there is no such function" for name in sorted(ENTRIES - seen)]
     faults += [f"docs/EXCEPTIONS.md excuses {name}, which needs no excuse" for name in sorted(excused - used)]
     for fault in faults:
         print(fault)
-    print(f"{seen} public functions read")
+    print(f"{len(seen)} public functions read, {len(ENTRIES)} of them entries, {len(excused)} exceptions")
     return 1 if faults or not seen else 0
 
 

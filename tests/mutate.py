@@ -1,5 +1,5 @@
 """Edits of a definition that `run` must refuse: the edited crate is still proved, and `run`, or a crate of theorems below it, is not.
-The last is an edit that the code must refuse: `tabler` is proved to give the answer that `tabled` defines.
+The last is an edit that the code must refuse: `tabler` is proved to give the answer that `tabler_spec` defines.
 
 In a scratch copy under target/; prints a line for each edit, and 'N passed, M failed'."""
 import pathlib
@@ -22,14 +22,14 @@ EDITS = [
     ("extension rule 17 dropped", RULES + "Extension.antt", r"rule 17 \(.*\)$", "rule 17 (zero? 0)"),
     ("execution rule 12 dropped", RULES + "Execution.antt", r"rule 12 \(.*\)$", "rule 12 (zero? 0)"),
     ("the bus reduced to equal totals", RULES + "Bus.antt", r"^sameTuple s t = .*$", "sameTuple s t = true"),
-    ("the last row wrapped to row 0", RULES + "Given.antt", r"^next n r = .*$", "next n r = either (ltb (r + 1) n) (r + 1) 0"),
+    ("the last row wrapped to row 0", RULES + "Given.antt", r"^next n r = .*$", "next n r = cond (ltb (r + 1) n) (r + 1) 0"),
     ("padding with comp 0", "crates/tables/specs/Groups.antt", r"(?s)(padding cell =.*?)comp = elementAt cell 0", r"\1comp = 0 ∷ 0 ∷ 0 ∷ 0 ∷ 0 ∷ []"),
     ("C not read on an untaken jump", "crates/machine/specs/Step.antt", r"asked 4 \(legal m s \(f \.c\)\)", "asked 4 (legalC m s f (f .kind))"),
     (
         STUCK_ROOM,
-        "crates/tabled/specs/Tabled.antt",
-        r"onStep \(step m s\) r\n    \(λ t\. choose \((leb \(filled \+ lengthAt m s \+ 1\) room)\) \((.*)\) \(Room r\)\)$",
-        r"choose (\1) (onStep (step m s) r (λ t. \2)) (Room r)",
+        "crates/tabler_spec/specs/Tabled.antt",
+        r"onStep \(step m s\) r\n    \(λ t\. cond \((leb \(filled \+ lengthAt m s \+ 1\) room)\) \((.*)\) \(Room r\)\)$",
+        r"cond (\1) (onStep (step m s) r (λ t. \2)) (Room r)",
     ),
 ]
 

@@ -1,7 +1,7 @@
 // The 64-bit generator of document 01, and a draw of 32 bits.
 ghost use mathlib.Core.Path.{_≡_};
 ghost use Prim.Native.Nat.{_+_, _*_, _/_, _%_, _^_, _<_};
-ghost use Rattle.draw.specs.Draw.{advance, drawOf};
+ghost use Rattle.draw.specs.Draw.{drawOf};
 
 pub struct Generator {
     pub state: u64,

@@ -15,6 +15,7 @@ use kinds::no_opcode;
 pub use kinds::well_formed;
 pub use known::decode_known;
 pub use words::instruction_at;
+pub use words::instruction_inside;
 ghost use mathlib.Core.Path.{_≡_};
 ghost use Rattle.form.specs.Data.{readData};
 ghost use Rattle.form.specs.Form.{operandOf, formOf, extensionOf, byKind, decodeOf};

@@ -2,26 +2,12 @@
 use crate::Instruction;
 use word::rest;
 use word::word_at;
+use word::word_inside;
 ghost use mathlib.Core.Path.{_≡_};
 ghost use Prim.Native.Nat.{_+_, _≤_, _<_};
 ghost use lib.ListN.{length};
-ghost use Rattle.word.specs.Bytes.{wordAt};
 ghost use Rattle.form.specs.Fours.{fourAt, ofFours};
 ghost use Rattle.form.specs.Instruction.{instructionAt};
-
-fn wide(x: u8) -> u32
-    ensures { λ r. ⌜ (r ≡ x) × (r < 256) ⌝ }
-{
-    x as u32
-}
-
-// A word whose four bytes are there: a whole instruction is read with one test.
-fn word_inside(s: &[u8], at: usize) -> u32
-    requires { ⌜ at + 4 ≤ length (now s) ⌝ }
-    ensures { λ r. ⌜ r ≡ wordAt (now (s .entry)) at ⌝ }
-{
-    wide(s[at]) + 256 * wide(s[at + 1]) + 65536 * wide(s[at + 2]) + 16777216 * wide(s[at + 3])
-}
 
 fn four_inside(s: &[u8], at: usize) -> [u32; 4]
     requires { ⌜ at + 16 ≤ length (now s) ⌝ }
@@ -82,6 +68,18 @@ fn instruction_near_end(s: &[u8], at: usize) -> Instruction
     first_short(rest(s, at))
 }
 
+// An instruction whose 48 bytes are there: it is read with no test.
+pub fn instruction_inside(s: &[u8], at: usize) -> Instruction
+    requires { ⌜ at + 48 ≤ length (now s) ⌝ }
+    ensures { λ r. ⌜ r ≡ instructionAt (now (s .entry)) at ⌝ }
+{
+    named(
+        four_inside(s, at),
+        four_inside(s, at + 16),
+        four_inside(s, at + 32),
+    )
+}
+
 // The instruction that starts at a byte; bytes past the end count as 0.
 pub fn instruction_at(s: &[u8], at: usize) -> Instruction
     ensures { λ r. ⌜ r ≡ instructionAt (now (s .entry)) at ⌝ }
@@ -92,9 +90,5 @@ pub fn instruction_at(s: &[u8], at: usize) -> Instruction
     if s.len() - 48 < at {
         return instruction_near_end(s, at);
     }
-    named(
-        four_inside(s, at),
-        four_inside(s, at + 16),
-        four_inside(s, at + 32),
-    )
+    instruction_inside(s, at)
 }

@@ -4,10 +4,10 @@ use mathlib.Core.Path.{_≡_, sym, _∙_}
 use Rattle.rules.specs.Given.{Given, Tables}
 use Rattle.rules.specs.Bus.{Tuple, pushed, pushes, pulled, pulls, instructionOf}
 use Rattle.answer.specs.declared.Answer.the-variants.{Accepted, Bus}
-use Rattle.judged.specs.Judged.{pullBalanced, bus}
-use Rattle.judged.specs.Refusal.{Equal}
-use Rattle.judged.proofs.Stages.{stage}
-use Rattle.judged.proofs.StageLaws.{tuples-pass}
+use Rattle.judge_spec.specs.Judged.{pullBalanced, bus}
+use Rattle.judge_spec.specs.Refusal.{Equal}
+use Rattle.judge_spec.proofs.Stages.{stage}
+use Rattle.judge_spec.proofs.StageLaws.{tuples-pass}
 
 -- where every tuple is pushed as often as it is pulled no row is refused
 pub all-equal : (g : Given) (t : Tables) → ((σ : Tuple) → Equal g t σ) → Accepted ≡ bus g t

@@ -17,13 +17,13 @@ use Rattle.rules.specs.Execution.{execRules}
 use Rattle.rules.specs.Extension.{extRules}
 use Rattle.rules.specs.Sizes.{wordOf}
 use Rattle.rules.specs.Satisfies.{All, Words}
-use Rattle.judged.specs.Judged.{isWord, firstWord, execRulesAt, execFailing, firstExec, extRulesAt, extFailing, firstExt}
-use Rattle.judged.proofs.Cases.{is-true}
-use Rattle.judged.proofs.FirstLaws.{first-past}
-use Rattle.judged.proofs.RuleLaws.{failing-holds, exec-numbered, ext-numbered}
+use Rattle.judge_spec.specs.Judged.{isWord, firstWord, execRulesAt, execFailing, firstExec, extRulesAt, extFailing, firstExt}
+use Rattle.judge_spec.proofs.Cases.{is-true}
+use Rattle.judge_spec.proofs.FirstLaws.{first-past}
+use Rattle.judge_spec.proofs.RuleLaws.{failing-holds, exec-numbered, ext-numbered}
 use Rattle.rules.specs.Sizes.{given, tables}
-use Rattle.parts.specs.Words.{WellFormed}
-use Rattle.windows.specs.Bus.{Formed, Flagged}
+use Rattle.inputs.specs.Words.{WellFormed}
+use Rattle.bus_windows.specs.Bus.{Formed, Flagged}
 
 pub all-words : (bytes : List ℕ) (m : ℕ) → m ≡ firstWord bytes → length bytes / 4 ≤ m → Words bytes
 all-words bytes m e past k h = ltb-true (wordOf bytes k) p (first-past (isWord bytes) (length bytes / 4) (rw e at past) k h)

@@ -5,9 +5,9 @@ use Prim.Native.Nat.{ℕ, _/_, _≤_}
 use lib.ListN.{length}
 use Rattle.answer.specs.declared.Answer.{Answer}
 use Rattle.rules.specs.Sizes.{given, tables}
-use Rattle.judged.specs.Judged.{words, instructions, start, execution, extension, bus, firstMalformed, firstExec, firstExt}
-use Rattle.parts.specs.Words.{WellFormed}
-use Rattle.tuples.specs.Order.{InOrder}
+use Rattle.judge_spec.specs.Judged.{words, instructions, start, execution, extension, bus, firstMalformed, firstExec, firstExt}
+use Rattle.inputs.specs.Words.{WellFormed}
+use Rattle.bus_tuples.specs.Order.{InOrder}
 use Rattle.judge.specs.declared.Seen.{Seen}
 
 -- what the walks over the program and both tables found: the first instruction and rows that fail, and up to where the pulls are what was pushed

@@ -3,10 +3,10 @@ mod bus;
 mod stage;
 
 use answer::Answer;
-use parts::bad_part;
+use inputs::bad_part;
 use stage::words_answer;
 ghost use mathlib.Core.Path.{_≡_};
-ghost use Rattle.judged.specs.Judged.{judgeOf};
+ghost use Rattle.judge_spec.specs.Judged.{judgeOf};
 
 // What one walk over the program and each table found: the first malformed instruction, the first execution row and the first extension row that
 // fail, and the extension row up to which the pulls are just what was pushed.

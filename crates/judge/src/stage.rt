@@ -3,21 +3,21 @@
 use crate::Seen;
 use crate::bus::bus_answer;
 use answer::Answer;
-use parts::first_word;
-use parts::first_word_unless;
-use parts::program_walk;
+use inputs::first_word;
+use inputs::first_word_unless;
+use inputs::program_walk;
+use judge_walks::exec_rule;
+use judge_walks::exec_walk;
+use judge_walks::ext_rule;
+use judge_walks::ext_walk;
 use rows::exec_row;
-use walks::exec_rule;
-use walks::exec_walk;
-use walks::ext_rule;
-use walks::ext_walk;
 ghost use mathlib.Core.Path.{_≡_};
 ghost use mathlib.Core.Bool.{true};
 ghost use Prim.Native.Nat.{_<_, _^_};
 ghost use Rattle.rules.specs.Satisfies.{Words};
-ghost use Rattle.judged.specs.Judged.{firstWord};
-ghost use Rattle.parts.specs.Words.{AllWords, WellFormed};
-ghost use Rattle.windows.specs.Bus.{Short};
+ghost use Rattle.judge_spec.specs.Judged.{firstWord};
+ghost use Rattle.inputs.specs.Words.{AllWords, WellFormed};
+ghost use Rattle.bus_windows.specs.Bus.{Short};
 ghost use Rattle.judge.specs.Stages.{wordsOf, programOf, rulesOf, Sees};
 
 // 5 EXEC, 6 EXTENSION and 7 BUS.

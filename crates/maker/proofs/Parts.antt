@@ -9,30 +9,30 @@ use native.Mathlib.Omega.{arith}
 use borrow.Author.Tests.{le-leb}
 use lib.ListN.{length, take, drop, getD, replicate, length-append, length-drop, replicate-append-replicate}
 use lib.Seq.{take-at, drop-at, drop-drop, length-take-le}
-use Rattle.word.specs.Bytes.{bytesOf, withWord}
-use Rattle.maker.specs.Bytes.{partsOf, wordBytes}
+use Rattle.word.specs.Bytes.{bytesOf, withWord, concatenated}
+use Rattle.maker.specs.Bytes.{wordBytes}
 
 module _ (part : ℕ → List ℕ) where
-  pub parts-length : (size : ℕ) → ((k : ℕ) → length (part k) ≡ size) → (n : ℕ) → length (partsOf part n) ≡ size * n
-  unfolding partsOf
+  pub parts-length : (size : ℕ) → ((k : ℕ) → length (part k) ≡ size) → (n : ℕ) → length (concatenated part n) ≡ size * n
+  unfolding concatenated
   parts-length size each zero = sym (mul-zero size)
   parts-length size each (suc n) =
-      length-append (partsOf part n) (part n) ∙ ap₂ _+_ (parts-length size each n) (each n) ∙ sym (mul-suc size n)
+      length-append (concatenated part n) (part n) ∙ ap₂ _+_ (parts-length size each n) (each n) ∙ sym (mul-suc size n)
 
-  pub parts-append : (k n : ℕ) → partsOf part (k + n) ≡ partsOf part k ++ partsOf (λ j. part (k + j)) n
-  unfolding partsOf
-  parts-append k zero = rw (add-zero k) (sym (append-nil (partsOf part k)))
+  pub parts-append : (k n : ℕ) → concatenated part (k + n) ≡ concatenated part k ++ concatenated (λ j. part (k + j)) n
+  unfolding concatenated
+  parts-append k zero = rw (add-zero k) (sym (append-nil (concatenated part k)))
   parts-append k (suc n) =
       let e : k + suc n ≡ suc (k + n) = omega arith in
-      rw (e, parts-append k n) (append-assoc (partsOf part k) (partsOf (λ j. part (k + j)) n) (part (k + n)))
+      rw (e, parts-append k n) (append-assoc (concatenated part k) (concatenated (λ j. part (k + j)) n) (part (k + n)))
 
-  pub parts-same : (other : ℕ → List ℕ) (n : ℕ) → ((j : ℕ) → j < n → part j ≡ other j) → partsOf part n ≡ partsOf other n
-  unfolding partsOf
+  pub parts-same : (other : ℕ → List ℕ) (n : ℕ) → ((j : ℕ) → j < n → part j ≡ other j) → concatenated part n ≡ concatenated other n
+  unfolding concatenated
   parts-same other zero h = refl
   parts-same other (suc n) h = ap₂ _++_ (parts-same other n (λ j b. h j (omega arith))) (h n (omega arith))
 
-  pub parts-one : (k : ℕ) → partsOf part (k + 1) ≡ partsOf part k ++ part k
-  unfolding partsOf
+  pub parts-one : (k : ℕ) → concatenated part (k + 1) ≡ concatenated part k ++ part k
+  unfolding concatenated
   parts-one k = rw (add-one k)
 
 -- four bytes for each word
@@ -40,8 +40,8 @@ pub words-length : (words : List ℕ) → length (wordBytes words) ≡ 4 * lengt
 words-length words = parts-length _ 4 (λ k. refl) (length words)
 
 -- words that are 0 are bytes that are 0
-pub zero-parts : (n : ℕ) → partsOf (λ k. bytesOf 0) n ≡ replicate (4 * n) 0
-unfolding partsOf
+pub zero-parts : (n : ℕ) → concatenated (λ k. bytesOf 0) n ≡ replicate (4 * n) 0
+unfolding concatenated
 zero-parts zero = refl
 zero-parts (suc n) =
     let e : 4 * suc n ≡ 4 * n + 4 = omega arith in
@@ -82,20 +82,20 @@ front-length t front at f high = length-append front (drop at t) ∙ omega (arit
 
 module _ (words t : List ℕ) (k : ℕ) (h : k < length words) (sized : length t ≡ 4 * length words) where
   first : ℕ → List ℕ
-  first n = partsOf (λ j. bytesOf (getD words j 0)) n
+  first n = concatenated (λ j. bytesOf (getD words j 0)) n
 
   front : (n : ℕ) → length (first n) ≡ 4 * n
   unfolding first
   front n = parts-length _ 4 (λ j. refl) n
 
-  pub word-put : withWord (partsOf (λ j. bytesOf (getD words j 0)) k ++ drop (4 * k) t) (4 * k) (getD words k 0)
-      ≡ partsOf (λ j. bytesOf (getD words j 0)) (k + 1) ++ drop (4 * (k + 1)) t
+  pub word-put : withWord (concatenated (λ j. bytesOf (getD words j 0)) k ++ drop (4 * k) t) (4 * k) (getD words k 0)
+      ≡ concatenated (λ j. bytesOf (getD words j 0)) (k + 1) ++ drop (4 * (k + 1)) t
   unfolding first
   word-put =
       let e : 4 * k + 4 ≡ 4 * (k + 1) = omega arith in
       next-word t (first k) (4 * k) (getD words k 0) (front k) (omega (arith, front-length t (first k) (4 * k) (front k) (omega arith)))
       ∙ rw (parts-one (λ j. bytesOf (getD words j 0)) k, e)
 
-  pub word-length : length (partsOf (λ j. bytesOf (getD words j 0)) (k + 1) ++ drop (4 * (k + 1)) t) ≡ length t
+  pub word-length : length (concatenated (λ j. bytesOf (getD words j 0)) (k + 1) ++ drop (4 * (k + 1)) t) ≡ length t
   unfolding first
   word-length = front-length t (first (k + 1)) (4 * (k + 1)) (front (k + 1)) (omega arith)

@@ -10,38 +10,38 @@ use lib.Dec.{lit<}
 use lib.ListN.{length, getD, List·getD-append}
 use lib.Seq.{getD-append-add}
 use Rattle.word.specs.Word.{IsWord}
-use Rattle.word.specs.Bytes.{wordAt, bytesOf}
+use Rattle.word.specs.Bytes.{wordAt, bytesOf, concatenated}
 use Rattle.word.proofs.FourBytes.{read-bytes}
 use Rattle.form.specs.Instruction.{instructionAt}
 use Rattle.label.specs.declared.Recipe.{Recipe}
 use Rattle.maker.specs.Made.{instructionOf, cellOf}
-use Rattle.maker.specs.Bytes.{partsOf, wordBytes, wordsOf, programOf, memoryOf}
+use Rattle.maker.specs.Bytes.{wordBytes, wordsOf, programOf, memoryOf}
 use Rattle.maker.proofs.Parts.{parts-length, words-length}
 use Rattle.maker.proofs.WellFormed.{program-words, cell-word}
 
 module _ (part : ℕ → List ℕ) (size : ℕ) (each : (k : ℕ) → length (part k) ≡ size) where
   -- byte j of part k
-  byte-at : (n k j : ℕ) → k < n → j < size → getD (partsOf part n) (size * k + j) 0 ≡ getD (part k) j 0
-  unfolding partsOf
+  byte-at : (n k j : ℕ) → k < n → j < size → getD (concatenated part n) (size * k + j) 0 ≡ getD (part k) j 0
+  unfolding concatenated
   byte-at zero k j h b = absurd (not-suc-le-zero h)
   byte-at (suc n) k j h b =
       ⊎-elim
       (λ (e : k ≡ n).
-      rw (e, ← parts-length part size each n) (getD-append-add (partsOf part n) (part n) j 0))
+      rw (e, ← parts-length part size each n) (getD-append-add (concatenated part n) (part n) j 0))
       (λ (l : k < n).
-      List·getD-append (partsOf part n) (part n) 0 (size * k + j)
+      List·getD-append (concatenated part n) (part n) 0 (size * k + j)
       (omega (arith, parts-length part size each n, mul-le-mul-left size l, mul-suc size k))
       ∙ byte-at n k j l b)
       (eq-or-lt-of-le (le-of-suc-le-suc h))
 
-  word-in : (n k j : ℕ) → k < n → j + 3 < size → wordAt (partsOf part n) (size * k + j) ≡ wordAt (part k) j
+  word-in : (n k j : ℕ) → k < n → j + 3 < size → wordAt (concatenated part n) (size * k + j) ≡ wordAt (part k) j
   word-in n k j h b = rw (byte-at n k j h (omega arith), next 1 (omega arith), next 2 (omega arith), next 3 (omega arith))
     where
-      next : (i : ℕ) → j + i < size → getD (partsOf part n) (size * k + j + i) 0 ≡ getD (part k) (j + i) 0
-      next i l = ap (λ (m : ℕ). getD (partsOf part n) m 0) (add-assoc (size * k) j i) ∙ byte-at n k (j + i) h l
+      next : (i : ℕ) → j + i < size → getD (concatenated part n) (size * k + j + i) 0 ≡ getD (part k) (j + i) 0
+      next i l = ap (λ (m : ℕ). getD (concatenated part n) m 0) (add-assoc (size * k) j i) ∙ byte-at n k (j + i) h l
 
 -- word k of words
-word-of : (w : ℕ → ℕ) (n k : ℕ) → k < n → IsWord (w k) → wordAt (partsOf (λ j. bytesOf (w j)) n) (4 * k) ≡ w k
+word-of : (w : ℕ → ℕ) (n k : ℕ) → k < n → IsWord (w k) → wordAt (concatenated (λ j. bytesOf (w j)) n) (4 * k) ≡ w k
 word-of w n k h small =
     (rw (add-zero (4 * k)) at (word-in (λ j. bytesOf (w j)) 4 (λ j. refl) n k 0 h (lit< tt))) ∙ read-bytes (w k) (omega arith)
 

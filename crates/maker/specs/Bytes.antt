@@ -1,10 +1,10 @@
 -- Document 01, "Draws, recipe, label" and "Verdicts" SIZE parts 0 to 2: the maker's answer, and both buffers at return.
 use mathlib.Core.Bool.{Bool, cond, _&&_}
-use mathlib.Core.List.{List, [], _∷_, _++_}
-use Prim.Native.Nat.{ℕ, zero, suc, _+_, _*_, _^_}
+use mathlib.Core.List.{List, [], _∷_}
+use Prim.Native.Nat.{ℕ, _+_, _*_, _^_}
 use lib.ListN.{length, getD}
 use lib.Dec.{eqb}
-use Rattle.word.specs.Bytes.{bytesOf}
+use Rattle.word.specs.Bytes.{bytesOf, concatenated}
 use Rattle.form.specs.declared.Instruction.{Instruction}
 use Rattle.answer.specs.declared.Answer.{Answer}
 use Rattle.answer.specs.declared.Answer.the-variants.{Accepted, Size}
@@ -12,14 +12,9 @@ use Rattle.label.specs.Label.{ranged}
 use Rattle.label.specs.declared.Recipe.{Recipe}
 use Rattle.maker.specs.Made.{instructionOf, cellOf}
 
--- n parts of a buffer, one after the other
-unfoldable pub partsOf : (ℕ → List ℕ) → ℕ → List ℕ
-partsOf part zero = []
-partsOf part (suc n) = partsOf part n ++ part n
-
 -- four bytes for each word
 abbrev pub wordBytes : List ℕ → List ℕ
-wordBytes words = partsOf (λ k. bytesOf (getD words k 0)) (length words)
+wordBytes words = concatenated (λ k. bytesOf (getD words k 0)) (length words)
 
 -- an instruction's 12 words
 abbrev pub wordsOf : Instruction → List ℕ
@@ -28,10 +23,10 @@ wordsOf i =
 
 -- the first k instructions of a recipe, and the first k cells
 abbrev pub instructionsOf : ℕ → ℕ → ℕ → List ℕ
-instructionsOf seed n k = partsOf (λ i. wordBytes (wordsOf (instructionOf seed n i))) k
+instructionsOf seed n k = concatenated (λ i. wordBytes (wordsOf (instructionOf seed n i))) k
 
 abbrev pub cellsOf : ℕ → ℕ → ℕ → List ℕ
-cellsOf seed n k = partsOf (λ j. bytesOf (cellOf seed n j)) k
+cellsOf seed n k = concatenated (λ j. bytesOf (cellOf seed n j)) k
 
 abbrev pub programOf : Recipe → List ℕ
 programOf r = instructionsOf (r .seed) (r .n) (r .n + 1)

@@ -1,7 +1,7 @@
 // The result of an extension instruction over the drawn cells.
+use element_ops::none;
+use element_ops::with_term;
 use form::Op;
-use ops::none;
-use ops::with_term;
 ghost use mathlib.Core.Path.{_≡_};
 ghost use Prim.Native.Nat.{_+_, _*_, _%_, _≤_, _<_};
 ghost use Rattle.machine.specs.Extension.{elementAt, leftAt, rightAt, termOf, joined, result};

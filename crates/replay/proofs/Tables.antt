@@ -9,11 +9,11 @@ use Rattle.answer.specs.declared.Answer.{Answer}
 use Rattle.answer.specs.declared.Answer.the-variants.{Accepted, Itself}
 use Rattle.label.specs.declared.Recipe.{Recipe}
 use Rattle.maker.specs.Bytes.{programAfter, memoryAfter}
-use Rattle.judged.specs.Judged.{judgeOf}
-use Rattle.built.specs.Built.{accepted, buildOf, execBuilt, extBuilt}
-use Rattle.built.specs.Inner.{Spaces}
-use Rattle.built.specs.Recipes.{tabledOf}
-use Rattle.built.proofs.Recipes.{program-is, memory-is, tabled-is, exec-is, ext-is}
+use Rattle.judge_spec.specs.Judged.{judgeOf}
+use Rattle.program_build.specs.Built.{accepted, buildOf, execBuilt, extBuilt}
+use Rattle.program_build.specs.Inner.{Spaces}
+use Rattle.program_build.specs.Recipes.{tabledOf}
+use Rattle.program_build.proofs.Recipes.{program-is, memory-is, tabled-is, exec-is, ext-is}
 use Rattle.replay.specs.Replay.{judgedOf, ownOf}
 
 module _ (r : Recipe) (p m e x : List ℕ) (room : Spaces r (length p) (length m) (length e) (length x)) where

@@ -11,10 +11,10 @@ use Rattle.label.specs.Label.{labelOf}
 use Rattle.label.specs.declared.Reading.{Reading}
 use Rattle.label.specs.declared.Recipe.{Recipe}
 use Rattle.maker.specs.Bytes.{programOf, memoryOf}
-use Rattle.judged.specs.Judged.{judgeOf}
-use Rattle.built.specs.Built.{accepted}
-use Rattle.built.specs.Recipes.{tabledOf, execOf, extOf}
-use Rattle.printed.specs.Line.{lineOf}
+use Rattle.judge_spec.specs.Judged.{judgeOf}
+use Rattle.program_build.specs.Built.{accepted}
+use Rattle.program_build.specs.Recipes.{tabledOf, execOf, extOf}
+use Rattle.program_lines.specs.Line.{lineOf}
 
 -- verdict=, part=, place= and rule=
 abbrev pub verdictText : List ℕ

@@ -1,18 +1,18 @@
 // A recipe's own tables, made and judged.
 use answer::Answer;
-use built::accepted;
-use built::build;
-use built::exec_space;
-use built::ext_space;
-use built::memory_space;
-use built::program_space;
 use judge::judge;
 use label::Recipe;
+use program_build::accepted;
+use program_build::build;
+use program_build::exec_space;
+use program_build::ext_space;
+use program_build::memory_space;
+use program_build::program_space;
 ghost use mathlib.Core.Bool.{true};
 ghost use mathlib.Core.Path.{_≡_};
 ghost use lib.ListN.{length};
 ghost use Rattle.label.specs.Label.{ranged};
-ghost use Rattle.built.specs.Inner.{Spaces};
+ghost use Rattle.program_build.specs.Inner.{Spaces};
 ghost use Rattle.replay.specs.Replay.{ownOf, replayOf};
 
 // ACCEPTED, or SELF where tabler or judge refuses the tables.

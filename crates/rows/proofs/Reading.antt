@@ -6,7 +6,7 @@ use Prim.Native.Nat.{ℕ, _+_, _-_, _≤_}
 use native.Mathlib.Nat.{add-zero, add-assoc}
 use native.Mathlib.Omega.{arith}
 use lib.ListN.{length, getD, take, drop}
-use lib.Seq.{getD-drop, drop-append-seam}
+use lib.Seq.{drop-append-seam}
 use Rattle.word.proofs.Lists.{_∷≡_}
 use Rattle.word.proofs.Part.{word-part, word-later, word-drop, first-word}
 use Rattle.word.specs.Bytes.{wordAt}

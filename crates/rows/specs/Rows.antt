@@ -1,9 +1,10 @@
 -- Document 01, "Layouts", parts 3 and 4; draft 0.6.0, 3.3.1 and 3.5.1: the words of a row, in order.
+use mathlib.Core.Bool.{cond}
 use Prim.Native.Nat.{ℕ, _+_}
 use mathlib.Core.List.{List, [], _∷_, _++_}
 use lib.ListN.{length, getD}
 use lib.Dec.{eqb}
-use Rattle.word.specs.Bytes.{wordAt, bytesOf, either}
+use Rattle.word.specs.Bytes.{wordAt, bytesOf}
 use Rattle.rows.specs.declared.Exec.{Exec}
 use Rattle.rows.specs.declared.Ext.{Ext}
 
@@ -67,4 +68,4 @@ extWords r =
 
 -- a row's bytes put in the place of as many; a buffer of another length is left as it is
 unfoldable pub putRow : List ℕ → ℕ → List ℕ → List ℕ
-putRow s size words = either (eqb (length s) size) (bytesOfWords words) s
+putRow s size words = cond (eqb (length s) size) (bytesOfWords words) s

@@ -1,10 +1,12 @@
 // Execution rows.
 use crate::Exec;
-use crate::word_inside;
 use word::put_word;
 use word::rest;
 use word::word_at;
+use word::word_inside;
 ghost use mathlib.Core.Path.{_≡_};
+ghost use Prim.Native.Nat.{_+_, _≤_};
+ghost use lib.ListN.{length};
 ghost use Rattle.rows.specs.Rows.{execAt, execWords, putRow};
 
 // The first row, where bytes of it may be past the end.
@@ -30,16 +32,11 @@ fn exec_near_end(s: &[u8], at: usize) -> Exec
     first_short(rest(s, at))
 }
 
-// The execution row that starts at a byte; bytes past the end count as 0. Of a part of 32 bytes no test is left once it is compiled.
-pub fn exec_row(s: &[u8], at: usize) -> Exec
+// A row whose 32 bytes are there: it is read with no test.
+pub fn exec_inside(s: &[u8], at: usize) -> Exec
+    requires { ⌜ at + 32 ≤ length (now s) ⌝ }
     ensures { λ r. ⌜ r ≡ execAt (now (s .entry)) at ⌝ }
 {
-    if s.len() < 32 {
-        return exec_near_end(s, at);
-    }
-    if s.len() - 32 < at {
-        return exec_near_end(s, at);
-    }
     Exec {
         pc: word_inside(s, at),
         fp: word_inside(s, at + 4),
@@ -50,6 +47,19 @@ pub fn exec_row(s: &[u8], at: usize) -> Exec
         valueB: word_inside(s, at + 24),
         valueC: word_inside(s, at + 28),
     }
+}
+
+// The execution row that starts at a byte; bytes past the end count as 0. Of a part of 32 bytes no test is left once it is compiled.
+pub fn exec_row(s: &[u8], at: usize) -> Exec
+    ensures { λ r. ⌜ r ≡ execAt (now (s .entry)) at ⌝ }
+{
+    if s.len() < 32 {
+        return exec_near_end(s, at);
+    }
+    if s.len() - 32 < at {
+        return exec_near_end(s, at);
+    }
+    exec_inside(s, at)
 }
 
 // The row's 32 bytes; a buffer of another length is left as it is.

@@ -1,9 +1,9 @@
 // Extension rows.
 use crate::Ext;
-use crate::word_inside;
 use word::put_word;
 use word::rest;
 use word::word_at;
+use word::word_inside;
 ghost use mathlib.Core.Path.{_≡_};
 ghost use Prim.Native.Nat.{_+_, _≤_, _<_, _^_};
 ghost use lib.ListN.{length, getD};
@@ -65,16 +65,11 @@ fn ext_near_end(s: &[u8], at: usize) -> Ext
     first_short(rest(s, at))
 }
 
-// The extension row that starts at a byte; bytes past the end count as 0. Of a part of 120 bytes no test is left once it is compiled.
-pub fn ext_row(s: &[u8], at: usize) -> Ext
+// A row whose 120 bytes are there: it is read with no test.
+pub fn ext_inside(s: &[u8], at: usize) -> Ext
+    requires { ⌜ at + 120 ≤ length (now s) ⌝ }
     ensures { λ r. ⌜ r ≡ extAt (now (s .entry)) at ⌝ }
 {
-    if s.len() < 120 {
-        return ext_near_end(s, at);
-    }
-    if s.len() - 120 < at {
-        return ext_near_end(s, at);
-    }
     let first = five_inside(s, at);
     let second = five_inside(s, at + 20);
     Ext {
@@ -93,6 +88,19 @@ pub fn ext_row(s: &[u8], at: usize) -> Ext
         comp: five_inside(s, at + 80),
         res: five_inside(s, at + 100),
     }
+}
+
+// The extension row that starts at a byte; bytes past the end count as 0. Of a part of 120 bytes no test is left once it is compiled.
+pub fn ext_row(s: &[u8], at: usize) -> Ext
+    ensures { λ r. ⌜ r ≡ extAt (now (s .entry)) at ⌝ }
+{
+    if s.len() < 120 {
+        return ext_near_end(s, at);
+    }
+    if s.len() - 120 < at {
+        return ext_near_end(s, at);
+    }
+    ext_inside(s, at)
 }
 
 // Five words from a byte on.

@@ -2,14 +2,12 @@
 mod execution;
 mod extension;
 
+pub use execution::exec_inside;
 pub use execution::exec_row;
 pub use execution::put_exec;
+pub use extension::ext_inside;
 pub use extension::ext_row;
 pub use extension::put_ext;
-ghost use mathlib.Core.Path.{_≡_};
-ghost use Prim.Native.Nat.{_+_, _≤_, _<_};
-ghost use lib.ListN.{length};
-ghost use Rattle.word.specs.Bytes.{wordAt};
 
 // A row of the execution table: 8 words in this order.
 pub struct Exec {
@@ -39,18 +37,4 @@ pub struct Ext {
     pub vB: [u32; 5],
     pub comp: [u32; 5],
     pub res: [u32; 5],
-}
-
-fn wide(x: u8) -> u32
-    ensures { λ r. ⌜ (r ≡ x) × (r < 256) ⌝ }
-{
-    x as u32
-}
-
-// A word whose four bytes are there: a whole row is read with one test.
-fn word_inside(s: &[u8], at: usize) -> u32
-    requires { ⌜ at + 4 ≤ length (now s) ⌝ }
-    ensures { λ r. ⌜ r ≡ wordAt (now (s .entry)) at ⌝ }
-{
-    wide(s[at]) + 256 * wide(s[at + 1]) + 65536 * wide(s[at + 2]) + 16777216 * wide(s[at + 3])
 }

@@ -1,13 +1,13 @@
 -- Draft 0.6.0, 3.5.4 and 3.6.2; document 01, "The bus": tuples pushed and pulled, and that every tuple is pushed as often as it is pulled.
 use Prim.Native.Nat.{ℕ, zero, suc, _+_, _*_, _%_}
-use mathlib.Core.Bool.{Bool, _&&_}
+use mathlib.Core.Bool.{Bool, _&&_, cond}
 use lib.Dec.{eqb}
 use Rattle.word.specs.Word.{p}
 use Rattle.form.specs.Data.{dataOf}
 use Rattle.form.specs.declared.Instruction.{Instruction}
 use Rattle.rows.specs.declared.Exec.{Exec}
 use Rattle.rows.specs.declared.Ext.{Ext}
-use Rattle.rules.specs.Given.{Given, Tables, either}
+use Rattle.rules.specs.Given.{Given, Tables}
 use Rattle.rules.specs.Execution.{νA, νB, νC, IS-PRECOMPILE}
 
 pub record Tuple : Type 0 where
@@ -46,10 +46,10 @@ instructionOf g t r = g .instruction (t .exec r .pc)
 -- how often a tuple is pushed by the execution rows below n, and pulled by the extension rows below n
 abbrev pub pushedTo : Given → Tables → Tuple → ℕ → ℕ
 pushedTo g t σ n =
-    total (λ r. either (sameTuple (pushed (instructionOf g t r) (t .exec r)) σ) (pushes (instructionOf g t r)) 0) n
+    total (λ r. cond (sameTuple (pushed (instructionOf g t r) (t .exec r)) σ) (pushes (instructionOf g t r)) 0) n
 
 abbrev pub pulledTo : Tables → Tuple → ℕ → ℕ
-pulledTo t σ n = total (λ r. either (sameTuple (pulled (t .ext r)) σ) (pulls (t .ext r)) 0) n
+pulledTo t σ n = total (λ r. cond (sameTuple (pulled (t .ext r)) σ) (pulls (t .ext r)) 0) n
 
 -- whether a tuple is pushed as often as it is pulled
 abbrev pub balanced : Given → Tables → Tuple → Bool

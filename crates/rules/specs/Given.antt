@@ -1,6 +1,6 @@
 -- What the constraints speak of: numbered instructions, cells and rows. Draft 0.6.0, 3.2 and 3.6.1.
 use Prim.Native.Nat.{ℕ, _+_}
-use mathlib.Core.Bool.{Bool, true, false, _&&_}
+use mathlib.Core.Bool.{Bool, _&&_, cond}
 use mathlib.Core.List.{List}
 use lib.Dec.{ltb, eqb}
 use Rattle.word.specs.Element.{_⟨_⟩}
@@ -30,13 +30,9 @@ zero? x = eqb x 0
 abbrev pub zeroElement? : List ℕ → Bool
 zeroElement? a = zero? (a ⟨ 0 ⟩) && zero? (a ⟨ 1 ⟩) && zero? (a ⟨ 2 ⟩) && zero? (a ⟨ 3 ⟩) && zero? (a ⟨ 4 ⟩)
 
-abbrev pub either : Bool → ℕ → ℕ → ℕ
-either true x y = x
-either false x y = y
-
 -- the row paired with row r of a table of n rows: the next one; the last row is paired with itself
 abbrev pub next : ℕ → ℕ → ℕ
-next n r = either (ltb (r + 1) n) (r + 1) r
+next n r = cond (ltb (r + 1) n) (r + 1) r
 
 -- a lookup: the address is below M, and the value is the cell's
 abbrev pub looksUp : Given → ℕ → ℕ → Bool

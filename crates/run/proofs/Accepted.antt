@@ -1,7 +1,7 @@
 -- And only there: a run that the tabler's definition accepts is the machine's run from the start, it stays, and it leaves a spare row.
 -- Assumes nothing.
 use mathlib.Core.Path.{_≡_, refl, sym, _∙_, ap}
-use mathlib.Core.Bool.{Bool, true, false, _&&_}
+use mathlib.Core.Bool.{Bool, true, false, _&&_, cond}
 use Prim.Native.Nat.{ℕ, zero, suc, _+_, _≤_, _<_}
 use native.Mathlib.Omega.{arith}
 use lib.Dec.{leb, eqb}
@@ -13,11 +13,10 @@ use Rattle.machine.specs.Step.{Outcome, goes, stuck, step}
 use Rattle.machine.specs.Run.{StayingRun, after, proceed}
 use Rattle.tables.specs.Rows.{stateAt, reached}
 use Rattle.tables.specs.Groups.{filled, lengthAt}
-use Rattle.judged.specs.Judged.{choose}
-use Rattle.tabled.specs.Tabled.{sameState, onStep, running}
+use Rattle.tabler_spec.specs.Tabled.{sameState, onStep, running}
 
 -- a choice between what goes on and a refusal, accepted
-pub passed : (b : Bool) (a r : Answer) → (r ≡ Accepted → ⊥) → choose b a r ≡ Accepted → (b ≡ true) × (a ≡ Accepted)
+pub passed : (b : Bool) (a r : Answer) → (r ≡ Accepted → ⊥) → cond b a r ≡ Accepted → (b ≡ true) × (a ≡ Accepted)
 passed true a r never e = (refl, e)
 passed false a r never e = absurd (never e)
 

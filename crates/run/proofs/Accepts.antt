@@ -1,20 +1,17 @@
 -- The run of the tabler's definition: it is accepted where the machine's run stays and leaves a spare row.
 -- Assumes nothing.
-use mathlib.Core.Path.{_≡_, refl, sym, _∙_, ap}
-use mathlib.Core.Bool.{Bool, true, false, _&&_}
-use Prim.Native.Nat.{ℕ, zero, suc, _+_, _≤_, _<_}
+use mathlib.Core.Path.{_≡_, refl}
+use mathlib.Core.Bool.{true}
+use Prim.Native.Nat.{ℕ, zero, suc, _+_, _≤_}
 use native.Mathlib.Nat.{add-zero}
 use native.Mathlib.Omega.{arith}
 use borrow.Author.Tests.{le-leb, eq-eqb}
-use Rattle.answer.specs.declared.Answer.{Answer}
 use Rattle.answer.specs.declared.Answer.the-variants.{Accepted}
 use Rattle.machine.specs.Machine.{Machine, State}
-use Rattle.machine.specs.Step.{Outcome, goes, step}
 use Rattle.machine.specs.Run.{StayingRun}
 use Rattle.tables.specs.Groups.{filled, lengthAt}
-use Rattle.written.proofs.Places.{filled-grows}
-use Rattle.judged.specs.Judged.{choose}
-use Rattle.tabled.specs.Tabled.{sameState, onStep, running}
+use Rattle.run_tables.proofs.Places.{filled-grows}
+use Rattle.tabler_spec.specs.Tabled.{sameState, running}
 
 same-itself : (s : State) → sameState s s ≡ true
 same-itself s = rw (eq-eqb (s .pc) (s .pc) refl, eq-eqb (s .fp) (s .fp) refl)

@@ -8,12 +8,12 @@ use native.Mathlib.Nat.{add-zero, add-suc}
 use native.Mathlib.Omega.{arith}
 use Rattle.answer.specs.declared.Answer.the-variants.{Accepted}
 use Rattle.machine.specs.Machine.{Machine, State}
-use Rattle.machine.specs.Step.{step, goes}
+use Rattle.machine.specs.Step.{step}
 use Rattle.machine.specs.Run.{StayingRun}
 use Rattle.rules.specs.Sizes.{Parts, givenOf}
-use Rattle.judged.specs.Judged.{judgeOf}
-use Rattle.steps.specs.Setting.{machineOf}
-use Rattle.steps.proofs.Legal.{one-successor}
+use Rattle.judge_spec.specs.Judged.{judgeOf}
+use Rattle.run_steps.specs.Setting.{machineOf}
+use Rattle.run_steps.proofs.Legal.{one-successor}
 use Rattle.run.proofs.Sound.{startOf, rowState, lastRow, sound}
 
 module _ {m : Machine} {start : State} {k l : ℕ} {s t : ℕ → State} (one : StayingRun m start k s) (two : StayingRun m start l t) where

@@ -7,11 +7,11 @@ use mathlib.Core.List.{[]}
 use lib.ListN.{length}
 use Rattle.answer.specs.declared.Answer.the-variants.{Accepted}
 use Rattle.machine.specs.Machine.{State}
-use Rattle.judged.specs.Judged.{judgeOf}
-use Rattle.judged.proofs.Exactly.{satisfies-accepted}
-use Rattle.written.specs.Setting.{Writable, TabledRun}
-use Rattle.written.proofs.Runs.{own-writable}
-use Rattle.written.proofs.Satisfied.{satisfies}
+use Rattle.judge_spec.specs.Judged.{judgeOf}
+use Rattle.judge_spec.proofs.Exactly.{satisfies-accepted}
+use Rattle.run_tables.specs.Setting.{Writable}
+use Rattle.run_tables.proofs.Runs.{own-writable}
+use Rattle.run_tables.proofs.Satisfied.{satisfies}
 use Rattle.run.specs.Runs.{Input, Permitted, LegalRun, Spare, withTables, given, start, pairOf}
 use Rattle.run.proofs.Lengths.{whole}
 use Rattle.run.proofs.Words.{fit-of}

@@ -2,11 +2,11 @@
 -- Assumes nothing.
 use mathlib.Core.Path.{_≡_}
 use mathlib.Core.Bool.{Bool, true, false, _&&_, _||_}
-use Prim.Native.Nat.{ℕ, zero, suc, _+_, _*_, _/_, _%_, _^_, _≤_, _<_}
+use Prim.Native.Nat.{ℕ, zero, suc, _*_, _/_, _%_, _^_, _≤_}
 use native.Mathlib.Nat.{pow-succ'}
 use native.Mathlib.Omega.{arith}
 use lib.Dec.{T, leb, leb→le, eqb, eqb→eq}
-use Rattle.rules.specs.Sizes.{power, powerOf, programFits, memoryFits, execFits, extFits}
+use Rattle.rules.specs.Sizes.{power, powerOf, programFits}
 
 both : (a b : Bool) → T (a && b) → T a × T b
 both true b t = (tt, t)

@@ -1,7 +1,7 @@
 -- A tuple that an execution row pushes is pulled by a row of the extension table, so the memory holds what an extension step asks.
 -- Assumes nothing.
 use mathlib.Core.Path.{_≡_, refl, _∙_, ap, subst₃}
-use mathlib.Core.Bool.{Bool, true, false, _&&_}
+use mathlib.Core.Bool.{Bool, true, false, _&&_, cond}
 use Prim.Native.Nat.{ℕ, zero, suc, _+_, _≤_, _<_}
 use native.Mathlib.Omega.{arith}
 use lib.Dec.{T, eqb, eqb→eq}
@@ -10,14 +10,14 @@ use Rattle.form.specs.declared.Form.{Form}
 use Rattle.form.specs.declared.Op.{Op}
 use Rattle.form.specs.declared.Kind.{Kind}
 use Rattle.form.specs.declared.Kind.the-variants.{Add, Mul, Deref, Jump, Extension}
-use Rattle.machine.specs.Machine.{Machine, State, value}
+use Rattle.machine.specs.Machine.{value}
 use Rattle.tables.specs.Rows.{formAt}
-use Rattle.rules.specs.Given.{Given, Tables, either}
+use Rattle.rules.specs.Given.{Given, Tables}
 use Rattle.rules.specs.Bus.{Tuple, sameTuple, pushed, pushes, pulled, pulls, total, pushedTo, pulledTo, instructionOf}
-use Rattle.steps.specs.Setting.{machineOf, stateOf, ExtensionHolds, MemoryHolds, OneCall, PushesBy, Pushes, call}
-use Rattle.groups.proofs.Lengths.{ExtTable}
-use Rattle.groups.proofs.Legal.{Legal}
-use Rattle.groups.proofs.Pulled.{pulled-legal}
+use Rattle.run_steps.specs.Setting.{machineOf, stateOf, ExtensionHolds, MemoryHolds, OneCall, PushesBy, Pushes}
+use Rattle.run_groups.proofs.Lengths.{ExtTable}
+use Rattle.run_groups.proofs.Legal.{Legal}
+use Rattle.run_groups.proofs.Pulled.{pulled-legal}
 
 -- a sum is at least each of its terms
 at-least : (f : ℕ → ℕ) (n r : ℕ) → r < n → f r ≤ total f n
@@ -62,10 +62,10 @@ pub record Pulling (x : Tuple) (σ : Tuple) (n : ℕ) : Type 0 where
   pub out : x .out ≡ σ .out
   pub counts : n ≡ 0 → ⊥
 
-pulling : (x σ : Tuple) (n : ℕ) → (either (sameTuple x σ) n 0 ≡ 0 → ⊥) → Pulling x σ n
+pulling : (x σ : Tuple) (n : ℕ) → (cond (sameTuple x σ) n 0 ≡ 0 → ⊥) → Pulling x σ n
 pulling x σ n some = go (sameTuple x σ) refl some
   where
-    go : (b : Bool) → sameTuple x σ ≡ b → (either b n 0 ≡ 0 → ⊥) → Pulling x σ n
+    go : (b : Bool) → sameTuple x σ ≡ b → (cond b n 0 ≡ 0 → ⊥) → Pulling x σ n
     go true e counts =
         let abc = both (eqb (x .aux) (σ .aux) && eqb (x .left) (σ .left) && eqb (x .right) (σ .right)) (eqb (x .out) (σ .out)) (rw e tt) in
         let ab = both (eqb (x .aux) (σ .aux) && eqb (x .left) (σ .left)) (eqb (x .right) (σ .right)) (abc .0) in
@@ -90,14 +90,14 @@ module _ (g : Given) (t : Tables) (table : ExtTable g (t .extHeight) (t .ext))
   pushed-once : pushes (instructionOf g t r) ≡ 1 → 1 ≤ pulledTo t (pushed (instructionOf g t r) (t .exec r)) (t .extHeight)
   pushed-once once =
       let σ = pushed (instructionOf g t r) (t .exec r) in
-      let term = at-least (λ k. either (sameTuple (pushed (instructionOf g t k) (t .exec k)) σ) (pushes (instructionOf g t k)) 0) (t .height) r below in
+      let term = at-least (λ k. cond (sameTuple (pushed (instructionOf g t k) (t .exec k)) σ) (pushes (instructionOf g t k)) 0) (t .height) r below in
       omega (arith, bus σ, once, rw (same-itself σ) at term)
 
   pulled-by : (op : Op) (be : Bool) (n : ℕ) (f : Form) → OneCall (machineOf g) f (instructionOf g t r) (t .exec r) op be n
       → (let m = machineOf g in let s = stateOf (t .exec r) in Legal g op be n (value m s (f .a)) (value m s (f .b)) (value m s (f .c)))
   pulled-by op be n f c =
       let σ = pushed (instructionOf g t r) (t .exec r) in
-      let k = some-term (λ j. either (sameTuple (pulled (t .ext j)) σ) (pulls (t .ext j)) 0) (t .extHeight) (pushed-once (c .once)) in
+      let k = some-term (λ j. cond (sameTuple (pulled (t .ext j)) σ) (pulls (t .ext j)) 0) (t .extHeight) (pushed-once (c .once)) in
       let p = pulling (pulled (t .ext (k .at))) σ (pulls (t .ext (k .at))) (k .counts) in
       let e = c .tuple in
       moved g op be n (p .left ∙ ap (λ (τ : Tuple). τ .left) e) (p .right ∙ ap (λ (τ : Tuple). τ .right) e) (p .out ∙ ap (λ (τ : Tuple). τ .out) e)

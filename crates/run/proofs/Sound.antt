@@ -1,8 +1,8 @@
 -- Demand 3, sound: where the constraints hold, every execution row is a legal step of the machine to the next row, row 0 is the start, and the
 -- last row stays where it is.
 -- Assumes nothing.
-use mathlib.Core.Path.{_≡_, ap}
-use Prim.Native.Nat.{ℕ, suc, _+_, _-_, _<_, _≤_}
+use mathlib.Core.Path.{_≡_}
+use Prim.Native.Nat.{ℕ, _+_, _-_, _<_, _≤_}
 use native.Mathlib.Numerals.{add-one}
 use native.Mathlib.Omega.{arith}
 use borrow.Author.Tests.{lt-ltb, le-ltb}
@@ -13,11 +13,11 @@ use Rattle.machine.specs.Run.{StayingRun}
 use Rattle.rules.specs.Given.{next}
 use Rattle.rules.specs.Sizes.{Parts, givenOf, tablesOf}
 use Rattle.rules.specs.Satisfies.{Satisfies}
-use Rattle.judged.specs.Judged.{judgeOf}
-use Rattle.judged.proofs.Exactly.{accepted-satisfies}
-use Rattle.steps.specs.Setting.{machineOf, stateOf, ExecWords}
-use Rattle.steps.proofs.Legal.{same-state}
-use Rattle.steps.proofs.Sound.{row-steps, row-pushes}
+use Rattle.judge_spec.specs.Judged.{judgeOf}
+use Rattle.judge_spec.proofs.Exactly.{accepted-satisfies}
+use Rattle.run_steps.specs.Setting.{machineOf, stateOf, ExecWords}
+use Rattle.run_steps.proofs.Legal.{same-state}
+use Rattle.run_steps.proofs.Sound.{row-steps, row-pushes}
 use Rattle.run.proofs.Words.{exec-words, fit, ext-table, some-rows}
 use Rattle.run.proofs.Memory.{memory-holds}
 

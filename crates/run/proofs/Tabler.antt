@@ -1,31 +1,30 @@
 -- Demand 3 of the tabler's answer: it accepts exactly where program, memory and start are permitted and there is a legal run of that height that
 -- stays and leaves a spare row. So where it says STUCK, ROOM or OPEN there is no such run.
 -- Assumes nothing.
-use mathlib.Core.Path.{_≡_, refl, sym, _∙_, ap}
-use mathlib.Core.Bool.{Bool, true, false, _&&_}
+use mathlib.Core.Path.{_≡_, refl}
+use mathlib.Core.Bool.{Bool, true, false, _&&_, cond}
 use mathlib.Core.List.{List}
-use Prim.Native.Nat.{ℕ, zero, suc, _+_, _-_, _*_, _/_, _≤_, _<_}
+use Prim.Native.Nat.{ℕ, suc, _-_, _*_, _/_}
 use native.Mathlib.Omega.{arith}
 use lib.Dec.{T, ltb}
 use lib.ListN.{length}
 use borrow.Author.Tests.{ltb-true, ltb-false, lt-ltb, le-ltb}
-use Rattle.word.specs.Word.{p, IsWord}
+use Rattle.word.specs.Word.{p}
 use Rattle.form.specs.Form.{wellFormed}
 use Rattle.answer.specs.declared.Answer.{Answer}
 use Rattle.answer.specs.declared.Answer.the-variants.{Accepted, Size, Word, Instruction, Start}
 use Rattle.machine.specs.Machine.{State}
 use Rattle.rules.specs.Sizes.{programFits, memoryFits, execFits, extFits, wordOf}
 use Rattle.rules.specs.Satisfies.{Words}
-use Rattle.judged.specs.First.{first}
-use Rattle.judged.proofs.FirstLaws.{first-none, first-past, first-bound}
+use Rattle.judge_spec.specs.First.{first}
+use Rattle.judge_spec.proofs.FirstLaws.{first-none, first-past}
 use Rattle.tables.specs.Rows.{stateAt}
-use Rattle.tables.specs.Groups.{filled}
 use Rattle.run.specs.Runs.{Input, Permitted, LegalRun, Spare, machine, start, given}
 use Rattle.run.proofs.Lengths.{whole}
-use Rattle.judged.specs.Judged.{choose, firstWord, firstMalformed}
-use Rattle.tabled.specs.Tabled.{tableOf, running}
+use Rattle.judge_spec.specs.Judged.{firstWord, firstMalformed}
+use Rattle.tabler_spec.specs.Tabled.{tableOf, running}
 use Rattle.run.proofs.Accepts.{running-accepts}
-use Rattle.run.proofs.Accepted.{passed, accepted-runs, Runs}
+use Rattle.run.proofs.Accepted.{passed, accepted-runs}
 
 is-true : (b : Bool) → T b → b ≡ true
 is-true true t = refl
@@ -39,7 +38,7 @@ both true b e = (refl, e)
 both false b e = let z : _≡_ {A = ℕ} 0 1 = cc e in absurd (omega arith)
 
 -- what the tabler accepts is permitted, and a refusal is no acceptance
-skipped : (b : Bool) (r a : Answer) → (r ≡ Accepted → ⊥) → choose b r a ≡ Accepted → (b ≡ false) × (a ≡ Accepted)
+skipped : (b : Bool) (r a : Answer) → (r ≡ Accepted → ⊥) → cond b r a ≡ Accepted → (b ≡ false) × (a ≡ Accepted)
 skipped true r a never e = absurd (never e)
 skipped false r a never e = (refl, e)
 

@@ -9,8 +9,8 @@ use lib.ListN.{length}
 use Rattle.word.specs.Word.{IsWord}
 use Rattle.answer.specs.declared.Answer.the-variants.{Accepted}
 use Rattle.rules.specs.Satisfies.{Satisfies}
-use Rattle.judged.specs.Judged.{judgeOf}
-use Rattle.judged.proofs.Exactly.{accepted-satisfies}
+use Rattle.judge_spec.specs.Judged.{judgeOf}
+use Rattle.judge_spec.proofs.Exactly.{accepted-satisfies}
 use Rattle.run.specs.Runs.{Input, Permitted, LegalRun, Spare, withTables, pairOf}
 use Rattle.run.proofs.Lengths.{whole}
 use Rattle.run.proofs.Words.{exec-words, some-rows}

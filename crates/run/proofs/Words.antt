@@ -2,7 +2,7 @@
 -- Assumes nothing.
 use mathlib.Core.Path.{_≡_}
 use mathlib.Core.List.{List}
-use Prim.Native.Nat.{ℕ, _+_, _*_, _/_, _%_, _^_, _≤_, _<_}
+use Prim.Native.Nat.{ℕ, _+_, _*_, _/_, _%_, _≤_, _<_}
 use native.Mathlib.Omega.{arith}
 use lib.Dec.{T}
 use lib.ListN.{length}
@@ -15,9 +15,9 @@ use Rattle.form.specs.Instruction.{instructionAt}
 use Rattle.rows.specs.Rows.{execAt, extAt, fiveAt}
 use Rattle.rules.specs.Sizes.{Parts, programFits, memoryFits, givenOf, tablesOf}
 use Rattle.rules.specs.Satisfies.{Words, Satisfies}
-use Rattle.steps.specs.Setting.{OperandWords, ExecWords, Fit}
-use Rattle.groups.proofs.Meaning.{RowWords}
-use Rattle.groups.proofs.Lengths.{ExtTable}
+use Rattle.run_steps.specs.Setting.{OperandWords, ExecWords, Fit}
+use Rattle.run_groups.proofs.Meaning.{RowWords}
+use Rattle.run_groups.proofs.Lengths.{ExtTable}
 use Rattle.run.proofs.Lengths.{whole, few}
 
 module _ (bytes : List ℕ) (words : Words bytes) where

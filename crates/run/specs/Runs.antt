@@ -14,7 +14,7 @@ use Rattle.rules.specs.Satisfies.{Words}
 use Rattle.tables.specs.Rows.{stateAt}
 use Rattle.tables.specs.Groups.{filled}
 use Rattle.tables.specs.Bytes.{execTable, extTable}
-use Rattle.steps.specs.Setting.{machineOf}
+use Rattle.run_steps.specs.Setting.{machineOf}
 
 -- what a run starts from
 pub record Input : Type 0 where

@@ -2,8 +2,8 @@
 -- Assumes nothing.
 use Prim.Native.Nat.{ℕ}
 use mathlib.Core.Bool.{true, false}
-use mathlib.Core.List.{List, [], _++_}
-use mathlib.Core.Path.{_≡_, sym, ap, _∙_}
+use mathlib.Core.List.{List, _++_}
+use mathlib.Core.Path.{_≡_, sym, _∙_}
 use borrow.Author.Tests.{eq-eqb, ne-eqb}
 use lib.ListN.{length}
 use Rattle.answer.specs.declared.Answer.{Answer}
@@ -11,12 +11,12 @@ use Rattle.label.specs.Reading.{Reads}
 use Rattle.label.specs.declared.Reading.{Reading}
 use Rattle.label.specs.declared.Recipe.{Recipe}
 use Rattle.maker.specs.Bytes.{programAfter, memoryAfter}
-use Rattle.built.specs.Built.{accepted, buildOf, execBuilt, extBuilt}
-use Rattle.built.specs.Output.{Fills, Outputs}
-use Rattle.built.specs.Inner.{Spaces}
-use Rattle.built.specs.Recipes.{tabledOf}
-use Rattle.built.proofs.Output.{fills-nothing}
-use Rattle.built.proofs.Recipes.{program-is, memory-is, tabled-is, exec-is, ext-is}
+use Rattle.program_build.specs.Built.{accepted, buildOf, execBuilt, extBuilt}
+use Rattle.program_build.specs.Output.{Fills, Outputs}
+use Rattle.program_build.specs.Inner.{Spaces}
+use Rattle.program_build.specs.Recipes.{tabledOf}
+use Rattle.program_build.proofs.Output.{fills-nothing}
+use Rattle.program_build.proofs.Recipes.{program-is, memory-is, tabled-is, exec-is, ext-is}
 use Rattle.table.specs.Table.{tablesOf, outputOf}
 
 module _ (r : Recipe) (p m e x out : List ℕ) (room : Spaces r (length p) (length m) (length e) (length x)) {a : Answer} (is : a ≡ buildOf r p m e x) where

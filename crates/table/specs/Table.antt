@@ -5,8 +5,8 @@ use mathlib.Core.List.{List, []}
 use lib.Dec.{eqb}
 use Rattle.label.specs.declared.Reading.{Reading}
 use Rattle.label.specs.declared.Recipe.{Recipe}
-use Rattle.built.specs.Built.{accepted}
-use Rattle.built.specs.Recipes.{tabledOf, partsOf}
+use Rattle.program_build.specs.Built.{accepted}
+use Rattle.program_build.specs.Recipes.{tabledOf, partsOf}
 
 -- parts 1 to 4 in order; nothing where the tabler refuses
 unfoldable pub tablesOf : Recipe → List ℕ

@@ -1,20 +1,20 @@
 // A recipe's parts, made and tabled.
-use built::accepted;
-use built::build;
-use built::exec_space;
-use built::ext_space;
-use built::memory_space;
-use built::program_space;
 use label::Recipe;
-use printed::put;
+use program_build::accepted;
+use program_build::build;
+use program_build::exec_space;
+use program_build::ext_space;
+use program_build::memory_space;
+use program_build::program_space;
+use program_lines::put;
 ghost use mathlib.Core.Bool.{true};
 ghost use mathlib.Core.List.{_++_};
 ghost use mathlib.Core.Path.{_≡_};
 ghost use Prim.Native.Nat.{_+_, _≤_};
 ghost use lib.ListN.{length};
 ghost use Rattle.label.specs.Label.{ranged};
-ghost use Rattle.built.specs.Output.{Fills};
-ghost use Rattle.built.specs.Inner.{Spaces};
+ghost use Rattle.program_build.specs.Output.{Fills};
+ghost use Rattle.program_build.specs.Inner.{Spaces};
 ghost use Rattle.table.specs.Table.{tablesOf};
 
 // The four parts in order, at the front of the buffer.

@@ -1,8 +1,8 @@
 // All that the program writes.
 use crate::made::tables_in_space;
-use built::accepted;
 use label::read_label;
-ghost use Rattle.built.specs.Output.{Outputs};
+use program_build::accepted;
+ghost use Rattle.program_build.specs.Output.{Outputs};
 ghost use Rattle.table.specs.Table.{outputOf};
 
 // The four parts of a label with m 10; nothing for a bad label or another m.

@@ -1,6 +1,6 @@
 -- The run ends with ACCEPTED, STUCK, ROOM or OPEN: the first leaves the tables filled, and on the others they are zeroed.
 -- Assumes nothing.
-use mathlib.Core.Bool.{Bool, true, false}
+use mathlib.Core.Bool.{Bool, true, false, cond}
 use mathlib.Core.List.{List}
 use mathlib.Core.Path.{_≡_, refl, sym, ap, _∙_}
 use Prim.Native.Nat.{ℕ, zero, suc, _+_, _-_, _/_}
@@ -13,10 +13,9 @@ use Rattle.answer.specs.declared.Answer.{Answer}
 use Rattle.machine.specs.Machine.{Machine, State}
 use Rattle.machine.specs.Step.{Outcome, goes, stuck, step}
 use Rattle.tables.specs.Groups.{lengthAt}
-use Rattle.judged.specs.Judged.{choose}
-use Rattle.tabled.specs.Tabled.{sameState, onStep, machineOf, running, heldAfter, tableOf, execAfter, extAfter}
+use Rattle.tabler_spec.specs.Tabled.{sameState, onStep, machineOf, running, heldAfter, tableOf, execAfter, extAfter}
 use Rattle.tabler.specs.Ends.{runOf, Ended, Tabling}
-use Rattle.terms.specs.Looked.{at}
+use Rattle.tabler_operands.specs.Looked.{at}
 
 data Final : Answer → Type 0 where
   is-accepted : Final Accepted
@@ -24,7 +23,7 @@ data Final : Answer → Type 0 where
   no-room : (row : ℕ) → Final (Room row)
   is-open : (row : ℕ) → Final (Open row)
 
-chosen : (b : Bool) {x y : Answer} → Final x → Final y → Final (choose b x y)
+chosen : (b : Bool) {x y : Answer} → Final x → Final y → Final (cond b x y)
 chosen true f g = f
 chosen false f g = g
 

@@ -8,6 +8,7 @@ use Prim.Native.Nat.{ℕ, _+_, _*_, _/_, _≤_, _<_, _^_}
 use native.Mathlib.Omega.{arith}
 use lib.Dec.{leb, ltb}
 use lib.ListN.{length}
+use Rattle.word.specs.Bytes.{concatenated}
 use Rattle.form.proofs.Cases.{each}
 use Rattle.form.specs.declared.Form.{Form}
 use Rattle.form.specs.declared.Kind.the-variants.{Add, Mul, Deref, Jump, Extension}
@@ -15,20 +16,19 @@ use Rattle.form.specs.declared.Kind.{Kind}
 use Rattle.machine.specs.Extension.{leftSpan, cellsExist}
 use Rattle.machine.specs.Machine.{Machine, State}
 use Rattle.machine.specs.Step.{Outcome, goes, stuck, asked, step}
-use Rattle.tables.specs.Bytes.{rowsOf}
 use Rattle.tables.specs.Groups.{lengthOf, stepRow}
 use Rattle.tables.specs.Rows.{formAt}
-use Rattle.tabled.specs.Tabled.{machineOf}
-use Rattle.terms.specs.Looked.{at, operandsOf}
-use Rattle.terms.specs.declared.Operands.{Operands}
-use Rattle.placed.specs.Placed.{extBytes, placed}
-use Rattle.placed.proofs.Lent.{none-placed, no-rows}
-use Rattle.grouped.specs.Grouped.{groupFits}
-use Rattle.stepping.specs.Moves.{movedOf}
-use Rattle.stepping.specs.Taken.{performedBy, performedExt, taken, takenExt}
-use Rattle.stepping.specs.declared.Moved.the-variants.{Stuck, Goes}
-use Rattle.stepping.specs.declared.Moved.{Moved}
-use Rattle.stepping.proofs.Legal.{ext-asked}
+use Rattle.tabler_spec.specs.Tabled.{machineOf}
+use Rattle.tabler_operands.specs.Looked.{at, operandsOf}
+use Rattle.tabler_operands.specs.declared.Operands.{Operands}
+use Rattle.tabler_rows.specs.Placed.{extBytes, placed}
+use Rattle.tabler_rows.proofs.Lent.{none-placed, no-rows}
+use Rattle.tabler_groups.specs.Grouped.{groupFits}
+use Rattle.tabler_step.specs.Moves.{movedOf}
+use Rattle.tabler_step.specs.Taken.{performedBy, performedExt, taken, takenExt}
+use Rattle.tabler_step.specs.declared.Moved.the-variants.{Stuck, Goes}
+use Rattle.tabler_step.specs.declared.Moved.{Moved}
+use Rattle.tabler_step.proofs.Legal.{ext-asked}
 use Rattle.tabler.specs.Stepped.{Stepped}
 use Rattle.tabler.proofs.Looking.{value-a, value-b, value-c, taken-step}
 use Rattle.tabler.proofs.Standing.{kindRows, kind-rows}
@@ -92,7 +92,7 @@ module _ (program memory : List ℕ) (s : State) (f : Form) (o : Operands)
 
   left-written : {t : State} → step m s ≡ goes t → 120 * filled + 120 * lengthOf (f .kind) ≤ length ext
       → takenExt (m .count) (m .cell) (m .size) (s .pc) (f .kind) o filled ext
-      ≡ placed ext (120 * filled) (120 * filled + 120 * lengthOf (f .kind)) (rowsOf (λ j. extBytes (stepRow m s j)) (lengthOf (f .kind)))
+      ≡ placed ext (120 * filled) (120 * filled + 120 * lengthOf (f .kind)) (concatenated (λ j. extBytes (stepRow m s j)) (lengthOf (f .kind)))
   left-written g room =
       let one = granted 1 (ltb (s .pc) (m .count)) _ (taken-step m s f eo ef ∙ g) in
       let two = granted 2 (o .a .legal) _ (one .1) in
@@ -106,5 +106,5 @@ module _ (program memory : List ℕ) (s : State) (f : Form) (o : Operands)
   pub stepped : {r : Moved} {ext′ : List ℕ}
       → r ≡ movedOf (taken (m .count) (m .cell) (m .size) s (f .kind) o)
       → ext′ ≡ takenExt (m .count) (m .cell) (m .size) (s .pc) (f .kind) o filled ext
-      → Stepped (step m s) filled (lengthOf (f .kind)) (rowsOf (λ j. extBytes (stepRow m s j)) (lengthOf (f .kind))) ext ext′ r
+      → Stepped (step m s) filled (lengthOf (f .kind)) (concatenated (λ j. extBytes (stepRow m s j)) (lengthOf (f .kind))) ext ext′ r
   stepped moved put = record { moved = moved ∙ ap movedOf (taken-step m s f eo ef); written = λ g room. put ∙ left-written g room }

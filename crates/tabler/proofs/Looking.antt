@@ -14,10 +14,10 @@ use Rattle.form.specs.declared.Kind.{Kind}
 use Rattle.machine.specs.Machine.{Machine, State, value, legal}
 use Rattle.machine.specs.Step.{Outcome, asked, targetLegal, performed, performs, step}
 use Rattle.tables.specs.Rows.{execRowOf, formAt, columnB}
-use Rattle.terms.specs.Looked.{at, lookedOf, lookedB, operandsOf}
-use Rattle.terms.specs.declared.Operands.{Operands}
-use Rattle.placed.specs.Placed.{execBytes, placed, rowBy, withRow}
-use Rattle.stepping.specs.Taken.{performedBy, taken}
+use Rattle.tabler_operands.specs.Looked.{at, lookedOf, lookedB, operandsOf}
+use Rattle.tabler_operands.specs.declared.Operands.{Operands}
+use Rattle.tabler_rows.specs.Placed.{execBytes, placed, rowBy, withRow}
+use Rattle.tabler_step.specs.Taken.{performedBy, taken}
 
 module _ (m : Machine) (s : State) (f : Form) where
   b-addr : (kind : Kind) → lookedB m s f kind .addr ≡ columnB m s f kind

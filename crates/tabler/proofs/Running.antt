@@ -2,7 +2,7 @@
 -- run gives the whole answer. Each turn keeps that, and each way out answers as the run does.
 -- Assumes nothing.
 use borrow.Author.Tests.{le-leb, lt-leb}
-use mathlib.Core.Bool.{Bool, true, false}
+use mathlib.Core.Bool.{Bool, true, false, cond}
 use mathlib.Core.List.{List}
 use mathlib.Core.Path.{_≡_, refl, sym, ap, _∙_}
 use Prim.Native.Nat.{ℕ, zero, suc, _+_, _-_, _*_, _/_, _≤_, _<_}
@@ -12,6 +12,7 @@ use native.Mathlib.Omega.{arith}
 use lib.Dec.{leb}
 use lib.ListN.{length, take}
 use lib.Seq.{take-all}
+use Rattle.word.specs.Bytes.{concatenated}
 use Rattle.form.specs.declared.Form.{Form}
 use Rattle.answer.specs.declared.Answer.the-variants.{Accepted, Stuck, Room, Open}
 use Rattle.answer.specs.declared.Answer.{Answer}
@@ -20,19 +21,18 @@ use Rattle.rows.specs.Rows.{execWords, extWords}
 use Rattle.machine.specs.Machine.{Machine, State}
 use Rattle.machine.specs.Run.{after}
 use Rattle.machine.specs.Step.{goes, stuck, step}
-use Rattle.tables.specs.Bytes.{rowsOf, execTable, extTable}
+use Rattle.tables.specs.Bytes.{execTable, extTable}
 use Rattle.tables.specs.Groups.{padding, lengthOf, lengthAt, stepRow, extRowOf, filled}
 use Rattle.tables.specs.Rows.{execRowOf, formAt, reached, stateAt}
-use Rattle.judged.specs.Judged.{choose}
-use Rattle.tabled.specs.Tabled.{sameState, running}
+use Rattle.tabler_spec.specs.Tabled.{sameState, running}
 use Rattle.tabler.specs.Ends.{runOf, Ended}
-use Rattle.placed.specs.Placed.{execBytes, extBytes, placed, withPadding}
-use Rattle.placed.proofs.Lent.{placed-length, rows-on, rows-length, rows-same}
+use Rattle.tabler_rows.specs.Placed.{execBytes, extBytes, placed, withPadding}
+use Rattle.tabler_rows.proofs.Lent.{placed-length, rows-on, rows-length, rows-same}
 use Rattle.tabler.proofs.Standing.{of-step, past-last}
 
 -- what is left of the run, with n rows from r on
 abbrev onward : Machine → ℕ → ℕ → State → ℕ → ℕ → Bool → Answer
-onward m room zero s r k stays = choose stays Accepted (Open (r - 1))
+onward m room zero s r k stays = cond stays Accepted (Open (r - 1))
 onward m room (suc n) s r k stays = running m room n s r k
 
 pub record Ran (m : Machine) (start : State) (height room : ℕ) (exec ext : List ℕ) (s : State) (r k : ℕ) (stays : Bool) : Type 0 where
@@ -46,7 +46,7 @@ pub record Ran (m : Machine) (start : State) (height room : ℕ) (exec ext : Lis
 
 module _ {m : Machine} {start : State} {height room : ℕ} {exec ext : List ℕ} where
   pub begins : 1 ≤ height → Ran m start height room exec ext start 0 0 false
-  unfolding after filled rowsOf
+  unfolding after filled concatenated
   begins some =
       let left : height - 0 ≡ suc (height - 1) = omega arith in
       record { within = omega arith; fits = omega arith; comes = refl; count = refl; answer = rw left; exec-rows = refl; ext-rows = refl }
@@ -106,8 +106,8 @@ module _ {m : Machine} {start : State} {height room : ℕ} {exec ext : List ℕ}
         unfolding filled
         count-next = rw (add-one r, state-here, ← ran .count)
 
-        one-row : execBytes (execRowOf m s) ≡ rowsOf (λ j. execBytes (execRowOf m (stateAt m start (r + j)))) 1
-        unfolding rowsOf
+        one-row : execBytes (execRowOf m s) ≡ concatenated (λ j. execBytes (execRowOf m (stateAt m start (r + j)))) 1
+        unfolding concatenated
         one-row = rw (add-zero r, state-here)
 
         its-group : (j : ℕ) → j < lengthAt m s → extBytes (stepRow m s j) ≡ extBytes (extRowOf m (stateAt m start) 0 height (k + j))
@@ -118,7 +118,7 @@ module _ {m : Machine} {start : State} {height room : ℕ} {exec ext : List ℕ}
         pub goes-on : 32 * r + 32 ≤ length exec → 120 * k + 120 * lengthAt m s ≤ length ext
             → {exec′ ext′ : List ℕ}
             → exec′ ≡ placed exec (32 * r) (32 * r + 32) (execBytes (execRowOf m s))
-            → ext′ ≡ placed ext (120 * k) (120 * k + 120 * lengthAt m s) (rowsOf (λ j. extBytes (stepRow m s j)) (lengthAt m s))
+            → ext′ ≡ placed ext (120 * k) (120 * k + 120 * lengthAt m s) (concatenated (λ j. extBytes (stepRow m s j)) (lengthAt m s))
             → Ran m start height room exec′ ext′ t (r + 1) (k + lengthAt m s) (sameState t s)
         goes-on exec-room ext-room put-exec put-ext =
             record {
@@ -142,7 +142,7 @@ module _ {m : Machine} {start : State} {height room : ℕ} {exec ext : List ℕ}
           → k + n < room → 32 * r + 32 ≤ length exec → 120 * k + 120 * n ≤ length ext
           → {exec′ ext′ : List ℕ}
           → exec′ ≡ placed exec (32 * r) (32 * r + 32) (execBytes (execRowOf m s))
-          → ext′ ≡ placed ext (120 * k) (120 * k + 120 * lengthOf (f .kind)) (rowsOf (λ j. extBytes (stepRow m s j)) (lengthOf (f .kind)))
+          → ext′ ≡ placed ext (120 * k) (120 * k + 120 * lengthOf (f .kind)) (concatenated (λ j. extBytes (stepRow m s j)) (lengthOf (f .kind)))
           → Ran m start height room exec′ ext′ t (r + 1) (k + n) (sameState t s)
       turns {f} {n} ef en enough exec-room ext-room put-exec put-ext =
           let len : lengthOf (f .kind) ≡ lengthAt m s = ap (λ (f : Form). lengthOf (f .kind)) ef in
@@ -153,7 +153,7 @@ module _ {m : Machine} {start : State} {height room : ℕ} {exec ext : List ℕ}
     all : r ≡ height
     all = omega (arith, ran .within)
 
-    pub stands : running m room (height - 1) start 0 0 ≡ choose stays Accepted (Open (height - 1))
+    pub stands : running m room (height - 1) start 0 0 ≡ cond stays Accepted (Open (height - 1))
     stands = let none : height - height ≡ 0 = omega arith in rw (all, none) at (ran .answer)
 
     pub all-exec : length exec ≡ 32 * height → exec ≡ execTable m (stateAt m start) height
@@ -165,14 +165,14 @@ module _ {m : Machine} {start : State} {height room : ℕ} {exec ext : List ℕ}
         → ext′ ≡ extTable m (stateAt m start) height room
     all-ext l {ext′} put =
         let fit = ran .fits in
-        let x = rowsOf (λ j. extBytes (padding (m .cell))) (room - k) in
+        let x = concatenated (λ j. extBytes (padding (m .cell))) (room - k) in
         let rows : length ext / 120 ≡ room = omega arith in
         let whole : k + (room - k) ≡ room = omega arith in
         let end : 120 * k + 120 * (room - k) ≡ 120 * room = omega arith in
         let padded : ext′ ≡ placed ext (120 * k) (120 * room) x = rw rows at put in
         let x-length : length x ≡ 120 * (room - k) =
         rows-length (λ j. extBytes (padding (m .cell))) 120 (room - k) (λ j. length-bytes (extWords (padding (m .cell)))) in
-        let same : x ≡ rowsOf (λ j. extBytes (extRowOf m (stateAt m start) 0 height (k + j))) (room - k) =
+        let same : x ≡ concatenated (λ j. extBytes (extRowOf m (stateAt m start) 0 height (k + j))) (room - k) =
         rows-same (λ j. extBytes (padding (m .cell))) _ (room - k) (λ j b. ap extBytes (sym (past j))) in
         let filled-all = rw (whole, end) at (rows-on (λ j. extBytes (extRowOf m (stateAt m start) 0 height j)) 120 ext x k (room - k) (omega arith) x-length same (ran .ext-rows)) in
         let longs : length ext′ ≡ 120 * room = ap length padded ∙ placed-length ext x (120 * k) (120 * room) (omega arith) (omega arith) (omega arith) ∙ l in

@@ -6,16 +6,16 @@ use mathlib.Core.Path.{_≡_, refl, sym, ap, _∙_}
 use Prim.Native.Nat.{ℕ, zero, suc, _+_, _-_, _<_}
 use native.Mathlib.Nat.{add-zero, zero-add}
 use native.Mathlib.Omega.{arith}
+use Rattle.word.specs.Bytes.{concatenated}
 use Rattle.form.specs.declared.Form.{Form}
 use Rattle.form.specs.declared.Kind.the-variants.{Add, Mul, Deref, Jump, Extension}
 use Rattle.form.specs.declared.Kind.{Kind}
 use Rattle.rows.specs.declared.Ext.{Ext}
 use Rattle.machine.specs.Machine.{Machine, State, value}
-use Rattle.tables.specs.Bytes.{rowsOf}
 use Rattle.tables.specs.Groups.{groupRow, padding, lengthOf, lengthAt, stepRowBy, stepRow, extRowOf, filled}
 use Rattle.tables.specs.Rows.{formAt}
-use Rattle.placed.specs.Placed.{extBytes}
-use Rattle.placed.proofs.Lent.{rows-same}
+use Rattle.tabler_rows.specs.Placed.{extBytes}
+use Rattle.tabler_rows.proofs.Lent.{rows-same}
 
 module _ (m : Machine) (state : ℕ → State) where
   -- the rows that d steps from step i on fill
@@ -69,7 +69,7 @@ kindRow cell (Extension op be n) a b c j = groupRow cell op be n a b c j
 
 -- all those rows
 abbrev pub kindRows : (ℕ → ℕ) → Kind → ℕ → ℕ → ℕ → List ℕ
-kindRows cell kind a b c = rowsOf (λ j. extBytes (kindRow cell kind a b c j)) (lengthOf kind)
+kindRows cell kind a b c = concatenated (λ j. extBytes (kindRow cell kind a b c j)) (lengthOf kind)
 
 -- the row that the code writes for a step, from its kind and its three values
 kind-row : (m : Machine) (s : State) (f : Form) (a b c j : ℕ)
@@ -88,7 +88,7 @@ kind-row m s f a b c j e ea eb ec = rw (ea, eb, ec, e) (by (formAt m s .kind))
 -- all its rows
 pub kind-rows : (m : Machine) (s : State) (f : Form) (a b c : ℕ)
     → f ≡ formAt m s → a ≡ value m s (f .a) → b ≡ value m s (f .b) → c ≡ value m s (f .c)
-    → kindRows (m .cell) (f .kind) a b c ≡ rowsOf (λ j. extBytes (stepRow m s j)) (lengthOf (f .kind))
+    → kindRows (m .cell) (f .kind) a b c ≡ concatenated (λ j. extBytes (stepRow m s j)) (lengthOf (f .kind))
 kind-rows m s f a b c e ea eb ec =
     rows-same (λ j. extBytes (kindRow (m .cell) (f .kind) a b c j)) (λ j. extBytes (stepRow m s j)) (lengthOf (f .kind))
     (λ j h. ap extBytes (kind-row m s f a b c j e ea eb ec))

@@ -7,8 +7,8 @@ use Rattle.answer.specs.declared.Answer.the-variants.{Accepted}
 use Rattle.answer.specs.declared.Answer.{Answer}
 use Rattle.tables.specs.Bytes.{execTable, extTable}
 use Rattle.tables.specs.Rows.{stateAt}
-use Rattle.tabled.specs.Tabled.{machineOf, running, heldAfter}
-use Rattle.terms.specs.Looked.{at}
+use Rattle.tabler_spec.specs.Tabled.{machineOf, running, heldAfter}
+use Rattle.tabler_operands.specs.Looked.{at}
 
 -- what the tabler is handed: the start and the bytes, those of the tables as they are at entry
 module _ (program memory : List ℕ) (pc fp : ℕ) (exec₀ ext₀ : List ℕ) where

@@ -5,9 +5,9 @@ use Prim.Native.Nat.{ℕ, _+_, _*_, _≤_}
 use lib.ListN.{length}
 use Rattle.machine.specs.Machine.{State}
 use Rattle.machine.specs.Step.{Outcome, goes}
-use Rattle.placed.specs.Placed.{placed}
-use Rattle.stepping.specs.Moves.{movedOf}
-use Rattle.stepping.specs.declared.Moved.{Moved}
+use Rattle.tabler_rows.specs.Placed.{placed}
+use Rattle.tabler_step.specs.Moves.{movedOf}
+use Rattle.tabler_step.specs.declared.Moved.{Moved}
 
 -- a step's outcome, with its n rows written after those filled where it goes on and they fit
 pub record Stepped (expected : Outcome) (filled n : ℕ) (rows ext₀ ext : List ℕ) (r : Moved) : Type 0 where

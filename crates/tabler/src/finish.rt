@@ -4,9 +4,9 @@ use crate::write::clear;
 use answer::Answer;
 use answer::four_numbers;
 ghost use lib.ListN.{length};
-ghost use Rattle.parts.specs.Parts.{Fitting};
+ghost use Rattle.inputs.specs.Parts.{Fitting};
 ghost use Rattle.tabler.specs.Ends.{runOf, Tabling};
-ghost use Rattle.parts.specs.Words.{WellFormed};
+ghost use Rattle.inputs.specs.Words.{WellFormed};
 
 // 9 to 11 leave both tables all zero.
 pub fn finish(

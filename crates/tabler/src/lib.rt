@@ -6,11 +6,11 @@ mod tests;
 mod write;
 
 use answer::Answer;
-use parts::bad_part;
+use inputs::bad_part;
 use tests::table_words;
 ghost use mathlib.Core.Path.{_≡_};
 ghost use lib.ListN.{length};
-ghost use Rattle.tabled.specs.Tabled.{tableOf, execAfter, extAfter};
+ghost use Rattle.tabler_spec.specs.Tabled.{tableOf, execAfter, extAfter};
 
 // The tabler. SIZE comes first; what is left is table_words's.
 pub fn table(

@@ -3,24 +3,24 @@ use crate::step::form_at;
 use crate::step::step_of;
 use crate::write::length_of;
 use answer::Answer;
-use placed::pad;
-use placed::put_row;
-use stepping::Moved;
-use terms::look_all;
+use tabler_operands::look_all;
+use tabler_rows::pad;
+use tabler_rows::put_row;
+use tabler_step::Moved;
+ghost use mathlib.Core.Bool.{cond};
 ghost use mathlib.Core.Path.{_≡_};
 ghost use Prim.Native.Nat.{_-_, _<_, _^_};
 ghost use lib.ListN.{length};
 ghost use Rattle.rules.specs.Sizes.{wordOf};
-ghost use Rattle.judged.specs.Judged.{choose};
-ghost use Rattle.parts.specs.Parts.{Fitting};
+ghost use Rattle.inputs.specs.Parts.{Fitting};
 ghost use Rattle.tabler.specs.Ends.{Ended};
-ghost use Rattle.parts.specs.Words.{WellFormed};
-ghost use Rattle.placed.specs.Placed.{withPadding};
+ghost use Rattle.inputs.specs.Words.{WellFormed};
+ghost use Rattle.tabler_rows.specs.Placed.{withPadding};
 
 // Every row is written: the last step has to stay, and past the last group is padding.
 fn close(memory: &[u8], height: usize, stays: bool, filled: usize, ext: &mut [u8]) -> Answer
     requires { ⌜ (0 < height) × (height < 2 ^ 32) ⌝ }
-    ensures { λ r. ⌜ r ≡ choose stays Answer.Accepted (Answer.Open (height - 1)) ⌝ }
+    ensures { λ r. ⌜ r ≡ cond stays Answer.Accepted (Answer.Open (height - 1)) ⌝ }
     ensures { λ r. ⌜ (r ≡ Answer.Accepted → now (ext .exit) ≡ withPadding (wordOf (now (memory .entry))) filled (now (ext .entry))) ⌝ }
 {
     if !stays {

@@ -7,23 +7,23 @@ use form::Operand;
 use form::decode;
 use form::decode_known;
 use form::instruction_at;
-use stepping::Moved;
-use stepping::take_step;
-use terms::Operands;
+use tabler_operands::Operands;
+use tabler_step::Moved;
+use tabler_step::take_step;
 ghost use mathlib.Core.Path.{_≡_};
 ghost use Prim.Native.Nat.{_*_, _≤_, _<_, _^_};
 ghost use lib.ListN.{length};
+ghost use Rattle.word.specs.Bytes.{concatenated};
 ghost use Rattle.form.specs.Form.{decodeOf};
 ghost use Rattle.form.specs.Instruction.{instructionAt};
 ghost use Rattle.machine.specs.Machine.{formIn};
 ghost use Rattle.machine.specs.Step.{step};
-ghost use Rattle.tables.specs.Bytes.{rowsOf};
 ghost use Rattle.tables.specs.Groups.{lengthOf, stepRow};
 ghost use Rattle.tables.specs.Rows.{formAt};
-ghost use Rattle.tabled.specs.Tabled.{machineOf};
-ghost use Rattle.terms.specs.Looked.{at, operandsOf};
-ghost use Rattle.parts.specs.Words.{WellFormed};
-ghost use Rattle.placed.specs.Placed.{extBytes};
+ghost use Rattle.tabler_spec.specs.Tabled.{machineOf};
+ghost use Rattle.tabler_operands.specs.Looked.{at, operandsOf};
+ghost use Rattle.inputs.specs.Words.{WellFormed};
+ghost use Rattle.tabler_rows.specs.Placed.{extBytes};
 ghost use Rattle.tabler.specs.Stepped.{Stepped};
 
 // A malformed instruction is read as the jump that stands for it; no program with one is run.
@@ -76,7 +76,7 @@ pub fn step_of(
     ext: &mut [u8],
 ) -> Moved
     requires { ⌜ (length (now program) < 2 ^ 32) × (length (now memory) ≤ 2 ^ 31) × (f ≡ formAt (machineOf (now program) (now memory)) (at pc fp)) × (o ≡ operandsOf (machineOf (now program) (now memory)) (at pc fp) f) ⌝ }
-    ensures { λ r. ⌜ Stepped (step (machineOf (now (program .entry)) (now (memory .entry))) (at pc fp)) filled (lengthOf (f .kind)) (rowsOf (λ j. extBytes (stepRow (machineOf (now (program .entry)) (now (memory .entry))) (at pc fp) j)) (lengthOf (f .kind))) (now (ext .entry)) (now (ext .exit)) r ⌝ }
+    ensures { λ r. ⌜ Stepped (step (machineOf (now (program .entry)) (now (memory .entry))) (at pc fp)) filled (lengthOf (f .kind)) (concatenated (λ j. extBytes (stepRow (machineOf (now (program .entry)) (now (memory .entry))) (at pc fp) j)) (lengthOf (f .kind))) (now (ext .entry)) (now (ext .exit)) r ⌝ }
 {
     let kind = f.kind;
     take_step(

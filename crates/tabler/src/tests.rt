@@ -1,16 +1,16 @@
 // The tabler's tests 2 to 4, and the run once they pass.
 use crate::finish::finish;
 use answer::Answer;
-use parts::first_word;
-use parts::first_word_unless;
-use parts::program_walk;
+use inputs::first_word;
+use inputs::first_word_unless;
+use inputs::program_walk;
 use word::P;
 ghost use lib.ListN.{length};
 ghost use mathlib.Core.List.{[]};
 ghost use Rattle.rules.specs.Sizes.{given};
-ghost use Rattle.judged.specs.Judged.{words, instructions};
-ghost use Rattle.parts.specs.Parts.{Fitting};
-ghost use Rattle.tabled.specs.Tabled.{startFits};
+ghost use Rattle.judge_spec.specs.Judged.{words, instructions};
+ghost use Rattle.inputs.specs.Parts.{Fitting};
+ghost use Rattle.tabler_spec.specs.Tabled.{startFits};
 ghost use Rattle.tabler.specs.Ends.{runOf, Tabling};
 
 // 2 to 4 change no byte.

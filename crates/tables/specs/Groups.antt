@@ -1,6 +1,6 @@
 -- Document 01, "The tabler"; draft 0.6.0, 3.5.1: an extension step's group of N rows, the groups in execution order, and the padding.
 use Prim.Native.Nat.{ℕ, zero, suc, _+_, _-_, _*_}
-use mathlib.Core.Bool.{Bool, true, false}
+use mathlib.Core.Bool.{Bool, true, false, cond}
 use lib.Dec.{ltb, eqb}
 use Rattle.form.specs.Data.{bit}
 use Rattle.form.specs.declared.Op.{Op}
@@ -96,15 +96,11 @@ stepRowBy m s j (Extension op be n) =
 abbrev pub stepRow : Machine → State → ℕ → Ext
 stepRow m s j = stepRowBy m s j (formAt m s .kind)
 
-abbrev pub either : Bool → Ext → Ext → Ext
-either true x y = x
-either false x y = y
-
 -- row k of the extension table over n steps from row r on: of the step whose group reaches it, and padding past the last group
 unfoldable pub extRowOf : Machine → (ℕ → State) → ℕ → ℕ → ℕ → Ext
 extRowOf m state r zero k = padding (m .cell)
 extRowOf m state r (suc n) k =
-    either (ltb k (lengthAt m (state r))) (stepRow m (state r) k) (extRowOf m state (suc r) n (k - lengthAt m (state r)))
+    cond (ltb k (lengthAt m (state r))) (stepRow m (state r) k) (extRowOf m state (suc r) n (k - lengthAt m (state r)))
 
 -- the extension rows that the steps below row n fill
 unfoldable pub filled : Machine → (ℕ → State) → ℕ → ℕ

@@ -1,6 +1,6 @@
 -- A call of the label reader has one outcome: the text has one reading.
 -- Assumes nothing.
-use mathlib.Core.Path.{_≡_, sym, _∙_, ap}
+use mathlib.Core.Path.{_≡_, sym, _∙_}
 use mathlib.Core.List.{List}
 use Prim.Native.Nat.{ℕ}
 use Rattle.label.proofs.Label.{reading-determined}

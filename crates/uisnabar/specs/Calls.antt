@@ -7,7 +7,7 @@ use lib.Dec.{eqb}
 use lib.ListN.{length}
 use Rattle.rows.specs.Rows.{putRow}
 use Rattle.answer.specs.declared.Answer.{Answer}
-use Rattle.judged.specs.Judged.{judgeOf}
+use Rattle.judge_spec.specs.Judged.{judgeOf}
 use Rattle.answer.specs.declared.Answer.the-variants.{Buffer}
 use Rattle.label.specs.declared.Recipe.{Recipe}
 use Rattle.label.specs.declared.Reading.{Reading}

@@ -1,12 +1,12 @@
 -- The laws of elements, so that no caller unfolds a sum or a product.
 -- Assumes nothing.
-use mathlib.Core.Path.{_≡_, sym, _∙_, ap, ap₂, refl}
+use mathlib.Core.Path.{_≡_, sym, _∙_, ap, refl}
 use mathlib.Core.List.{List, [], _∷_}
 use Prim.Native.Nat.{ℕ, zero, suc, _<_}
 use native.Mathlib.Omega.{arith}
 use lib.Dec.{lit<}
 use lib.ListN.{length, getD}
-use Rattle.word.specs.Word.{p, IsWord, _+ₚ_, _-ₚ_, _*ₚ_}
+use Rattle.word.specs.Word.{IsWord, _+ₚ_}
 use Rattle.word.specs.Element.{_⟨_⟩, IsElement, element, _+ₑ_, _-ₑ_, nine, folded, _·ₑ_, _*ₑ_, peqₑ}
 use Rattle.word.proofs.WordLaws.{
   sum-word,

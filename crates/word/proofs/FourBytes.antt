@@ -12,7 +12,7 @@ use lib.Dec.{lit<}
 use lib.Seq.{sets-eq, length-take-le, getD-append-add}
 use borrow.Author.Tests.{le-leb, lt-leb}
 use Rattle.word.proofs.Lists.{_∷≡_}
-use Rattle.word.specs.Bytes.{wordAt, bytesOf, withWord, either}
+use Rattle.word.specs.Bytes.{wordAt, bytesOf, withWord}
 
 -- a word past the end is 0
 pub past : (s : List ℕ) (at : ℕ) → length s ≤ at → 0 ≡ wordAt s at

@@ -5,7 +5,7 @@ use mathlib.Core.Path.{_≡_, sym, _∙_, ap}
 use mathlib.Core.Bool.{Bool, true, false}
 use mathlib.Core.Logic.{_⊎_, inl, inr}
 use Prim.Native.Nat.{ℕ, zero, suc, _+_, _-_, _*_, _/_, _%_, _<_, _≤_}
-use native.Mathlib.Nat.{add-zero, add-suc, mul-zero, mul-suc, le-of-suc-le-suc, not-suc-le-zero, div-add-mod, mod-lt, mul-mod-left, mul-mod-right, mul-le-mul, add-mul-mod-self-left, mul-one, one-mul, le-refl, le-trans}
+use native.Mathlib.Nat.{add-zero, mul-zero, le-of-suc-le-suc, not-suc-le-zero, div-add-mod, mod-lt, mul-mod-left, mul-mod-right, mul-le-mul, add-mul-mod-self-left, mul-one, one-mul, le-refl, le-trans}
 use native.Mathlib.Decide.{decLt, ℕ-discrete}
 use native.Mathlib.Omega.{arith}
 use lib.Dec.{T, eqb, lit<}

@@ -1,13 +1,12 @@
 -- The laws of words modulo p, so that no caller unfolds a sum, a difference or a product.
 -- Assumes nothing.
-use mathlib.Core.Path.{_≡_, sym, _∙_, ap, refl}
+use mathlib.Core.Path.{_≡_, sym, _∙_, ap}
 use mathlib.Core.Logic.{_⊎_, inl, inr, ⊎-elim}
-use Prim.Native.Nat.{ℕ, _+_, _-_, _*_, _/_, _%_, _<_, _≤_}
-use native.Mathlib.Nat.{mod-lt, mod-eq-of-lt, mul-comm, mul-one, mul-zero, zero-mul, one-mul}
+use Prim.Native.Nat.{ℕ, _+_, _-_, _*_, _%_, _<_}
+use native.Mathlib.Nat.{mod-lt, mod-eq-of-lt, mul-comm}
 use native.Mathlib.Omega.{arith}
 use lib.Dec.{lit<}
 use Rattle.word.specs.Word.{p, IsWord, _+ₚ_, _-ₚ_, _*ₚ_}
-use Rattle.word.proofs.Modulo.{mod-mul, mul-mod}
 use Rattle.word.proofs.Primality.{p-prime, factor-zero}
 
 -- each result is a word

@@ -33,6 +33,14 @@ fn word_near_end(s: &[u8], at: usize) -> u32
         + 16777216 * wide(byte_at(s, at + 3))
 }
 
+// A word whose four bytes are there: it is read with no test.
+pub fn word_inside(s: &[u8], at: usize) -> u32
+    requires { ⌜ at + 4 ≤ length (now s) ⌝ }
+    ensures { λ r. ⌜ r ≡ wordAt (now (s .entry)) at ⌝ }
+{
+    wide(s[at]) + 256 * wide(s[at + 1]) + 65536 * wide(s[at + 2]) + 16777216 * wide(s[at + 3])
+}
+
 // The word at a byte of the buffer; a byte past the end counts as 0.
 pub fn word_at(s: &[u8], at: usize) -> u32
     ensures { λ r. ⌜ r ≡ wordAt (now (s .entry)) at ⌝ }
@@ -43,7 +51,7 @@ pub fn word_at(s: &[u8], at: usize) -> u32
     if s.len() - 4 < at {
         return word_near_end(s, at);
     }
-    wide(s[at]) + 256 * wide(s[at + 1]) + 65536 * wide(s[at + 2]) + 16777216 * wide(s[at + 3])
+    word_inside(s, at)
 }
 
 // The four bytes of x from a byte on; nothing is written where they don't fit.

@@ -4,6 +4,7 @@ mod bytes;
 pub use bytes::put_word;
 pub use bytes::rest;
 pub use bytes::word_at;
+pub use bytes::word_inside;
 ghost use mathlib.Core.Path.{_≡_};
 ghost use Prim.Native.Nat.{_<_, _%_};
 ghost use Rattle.word.specs.Word.{p, _+ₚ_, _-ₚ_, _*ₚ_};

@@ -2,9 +2,9 @@
 use mathlib.Core.Path.{sym, _∙_}
 use lib.ListN.{length}
 use Rattle.rules.specs.Sizes.{programFits, memoryFits, execFits, extFits}
-use Rattle.judged.specs.Judged.{judgeOf}
+use Rattle.judge_spec.specs.Judged.{judgeOf}
 use native.Mathlib.Omega.{arith}
-use Rattle.parts.proofs.Fits.{bad-named, all-fit, fitting}
+use Rattle.inputs.proofs.Fits.{bad-named, all-fit, fitting}
 use borrow.Author.Needs.{needs}
 use Rattle.judge.proofs.judge.Statement.{statement}
 use Rattle.judge.proofs.judge.Tie as tie

@@ -1,6 +1,6 @@
 -- `main` is safe: the bytes that it writes are the buffer's first.
 use borrow.Author.Needs.{needs}
-use Rattle.built.proofs.Output.{output-fits, output-part}
+use Rattle.program_build.proofs.Output.{output-fits, output-part}
 use Rattle.table.specs.Table.{outputOf}
 use Rattle.table.proofs.main.Statement.{statement}
 use Rattle.table.proofs.main.Tie as tie

@@ -3,9 +3,9 @@ use borrow.Author.Needs.{needs}
 use mathlib.Core.Path.{refl, sym, _∙_}
 use lib.ListN.{length}
 use Rattle.rules.specs.Sizes.{programFits, memoryFits, execFits, extFits}
-use Rattle.tabled.specs.Tabled.{tableOf}
+use Rattle.tabler_spec.specs.Tabled.{tableOf}
 use Rattle.tabler.proofs.Ending.{unchanged, three}
-use Rattle.parts.proofs.Fits.{bad-named, Fit, all-fit, fitting}
+use Rattle.inputs.proofs.Fits.{bad-named, Fit, all-fit, fitting}
 use Rattle.tabler.proofs.table.Statement.{statement}
 use Rattle.tabler.proofs.table.Tie as tie
 

@@ -8,8 +8,8 @@ use lib.ListN.{length}
 use Rattle.rules.specs.Bus.{pulledTo, instructionOf}
 use Rattle.rules.specs.Sizes.{given, tables}
 use Rattle.judge.proofs.Balances.{all-equal}
-use Rattle.windows.proofs.Countable.{counts}
-use Rattle.windows.proofs.Tuples.{formed-coded}
+use Rattle.bus_windows.proofs.Countable.{counts}
+use Rattle.bus_windows.proofs.Tuples.{formed-coded}
 use borrow.Author.Needs.{needs}
 use Rattle.judge.proofs.bus.bus_answer.Statement.{statement}
 use Rattle.judge.proofs.bus.bus_answer.Tie as tie

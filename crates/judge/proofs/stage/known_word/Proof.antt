@@ -1,6 +1,6 @@
 -- What was seen is the case of `either`.
 use borrow.Author.Needs.{needs}
-use Rattle.parts.proofs.Formed.{seen-words}
+use Rattle.inputs.proofs.Formed.{seen-words}
 use Rattle.judge.proofs.stage.known_word.Statement.{statement}
 use Rattle.judge.proofs.stage.known_word.Tie as tie
 

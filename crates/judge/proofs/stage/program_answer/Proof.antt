@@ -1,7 +1,7 @@
 -- Each answer is the case of the tests that led to it.
 use borrow.Author.Tests.{lt-ltb, le-ltb, eq-eqb, ne-eqb}
 use mathlib.Core.Path.{sym}
-use Rattle.parts.proofs.Formed.{all-formed}
+use Rattle.inputs.proofs.Formed.{all-formed}
 use borrow.Author.Needs.{needs}
 use Rattle.judge.proofs.stage.program_answer.Statement.{statement}
 use Rattle.judge.proofs.stage.program_answer.Tie as tie

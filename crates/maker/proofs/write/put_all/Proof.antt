@@ -7,8 +7,9 @@ use native.Mathlib.Omega.{arith}
 use borrow.Author.Needs.{needs}
 use lib.Seq.{length-take-le}
 use lib.ListN.{length, drop}
+use Rattle.word.specs.Bytes.{concatenated}
 use Rattle.maker.proofs.Filling.{program-kept, cells-kept, instruction-next, made-row, cells-begun, first-length, slot-row, slot-next}
-use Rattle.maker.specs.Bytes.{partsOf, instructionsOf, cellsOf}
+use Rattle.maker.specs.Bytes.{instructionsOf, cellsOf}
 use Rattle.maker.proofs.Drawing.{kind-drawn, a-drawn, c-drawn, after-three}
 use Rattle.maker.proofs.Parts.{part-length, front-length, behind}
 use Rattle.maker.specs.Drawn.{stateAfter, kindOf, aOf, cOf}
@@ -34,7 +35,7 @@ put-words-requires c κs =
     length-take-le 128 (s .args .memory .now) (omega (arith, s .pre)) ∙ omega (arith, long)
 
 loop-holds : tie.Need-loop-holds Inv-loop μ-loop
-unfolding partsOf
+unfolding concatenated
 loop-holds c =
     let s = c .before .before .before .before .before .before .before .before .before .before .args in
     let begun = c .before .before .before .before .before .before .before .begin in

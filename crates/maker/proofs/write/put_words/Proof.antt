@@ -6,20 +6,19 @@ use native.Mathlib.Omega.{arith}
 use borrow.Author.Needs.{needs}
 use lib.ListN.{drop-of-length-le, length, drop, getD}
 use Rattle.maker.proofs.Parts.{word-put, word-length}
-use Rattle.word.specs.Bytes.{bytesOf}
-use Rattle.maker.specs.Bytes.{partsOf}
+use Rattle.word.specs.Bytes.{bytesOf, concatenated}
 use Rattle.maker.proofs.write.put_words.Statement.{statement}
 use Rattle.maker.proofs.write.put_words.Tie as tie
 
 abbrev Inv-loop : tie.InvT-loop
 Inv-loop words s₀ k₀ s k =
-    (k ≤ length words) × (length s ≡ length s₀) × (s ≡ partsOf (λ j. bytesOf (getD words j 0)) k ++ drop (4 * k) s₀)
+    (k ≤ length words) × (length s ≡ length s₀) × (s ≡ concatenated (λ j. bytesOf (getD words j 0)) k ++ drop (4 * k) s₀)
 
 abbrev μ-loop : tie.MeasureT-loop
 μ-loop words s₀ k₀ s k = length words - k
 
 loop-holds : tie.Need-loop-holds Inv-loop μ-loop
-unfolding partsOf
+unfolding concatenated
 loop-holds c = search needs
 
 loop-again : tie.Need-loop-again Inv-loop μ-loop
@@ -27,7 +26,7 @@ loop-again c =
     let l = c .before .before .before .before .before .before .loop in
     let a = c .before .before .before .before .before .before .before .before .before .args in
     let pre = c .before .before .before .before .before .before .before .before .before .pre in
-    let e : c .before .before .put-word .last .0 ≡ partsOf (λ j. bytesOf (getD (a .words .now) j 0)) (l .k + 1) ++ drop (4 * (l .k + 1)) (a .s .now) =
+    let e : c .before .before .put-word .last .0 ≡ concatenated (λ j. bytesOf (getD (a .words .now) j 0)) (l .k + 1) ++ drop (4 * (l .k + 1)) (a .s .now) =
     c .before .before .put-word .ensures ∙ rw (l .inv .2) (word-put (a .words .now) (a .s .now) (l .k) (omega arith) pre)
     in
     (omega arith, ap length e ∙ word-length (a .words .now) (a .s .now) (l .k) (omega arith) pre, e)

@@ -4,8 +4,8 @@ use Prim.Native.Nat.{_+_, _≤_}
 use mathlib.Core.List.{_++_}
 use native.Mathlib.Omega.{arith}
 use lib.ListN.{length}
-use Rattle.built.proofs.Output.{fills-front}
-use Rattle.printed.proofs.Placing.{stands-four}
+use Rattle.program_build.proofs.Output.{fills-front}
+use Rattle.program_lines.proofs.Placing.{stands-four}
 use Rattle.table.proofs.made.put_parts.Statement.{statement}
 use Rattle.table.proofs.made.put_parts.Tie as tie
 

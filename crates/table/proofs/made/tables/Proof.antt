@@ -3,7 +3,7 @@ use borrow.Author.Needs.{needs}
 use mathlib.Core.Path.{sym, _∙_}
 use native.Mathlib.Omega.{arith}
 use borrow.Author.Tests.{not-true, not-false}
-use Rattle.built.proofs.Recipes.{total-most}
+use Rattle.program_build.proofs.Recipes.{total-most}
 use Rattle.table.proofs.Writing.{not-tabled, tabled}
 use Rattle.table.proofs.made.tables.Statement.{statement}
 use Rattle.table.proofs.made.tables.Tie as tie

@@ -1,6 +1,6 @@
 -- `made::tables_in_space` meets its contract: the buffers are as long as the parts.
 use borrow.Author.Needs.{needs}
-use Rattle.built.proofs.Recipes.{program-fits, program-part, spaces}
+use Rattle.program_build.proofs.Recipes.{program-fits, program-part, spaces}
 use Rattle.table.proofs.made.tables_in_space.Statement.{statement}
 use Rattle.table.proofs.made.tables_in_space.Tie as tie
 

@@ -2,7 +2,7 @@
 use borrow.Author.Needs.{needs}
 use mathlib.Core.Path.{sym, _∙_}
 use borrow.Author.Tests.{not-true, not-false}
-use Rattle.built.proofs.Output.{inside}
+use Rattle.program_build.proofs.Output.{inside}
 use Rattle.table.proofs.Writing.{bad-label, other-m, good-label}
 use Rattle.table.proofs.output.table_label.Statement.{statement}
 use Rattle.table.proofs.output.table_label.Tie as tie

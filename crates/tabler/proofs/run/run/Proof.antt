@@ -7,8 +7,8 @@ use lib.ListN.{length}
 use Rattle.form.specs.declared.Form.{Form}
 use Rattle.machine.specs.Step.{step, goes}
 use Rattle.tables.specs.Groups.{lengthOf}
-use Rattle.tabled.specs.Tabled.{machineOf}
-use Rattle.terms.specs.Looked.{at, operandsOf}
+use Rattle.tabler_spec.specs.Tabled.{machineOf}
+use Rattle.tabler_operands.specs.Looked.{at, operandsOf}
 use Rattle.tabler.proofs.Going.{went, held-up}
 use Rattle.tabler.proofs.Looking.{row-written}
 use Rattle.tabler.proofs.Running.{Ran, begins, is-stuck, no-room, turns, stands, all-exec, all-ext, refused, stuck-no, room-no}

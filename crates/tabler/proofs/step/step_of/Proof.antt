@@ -1,6 +1,6 @@
 -- The form is the one that stands at pc, so the step taken is the machine's.
 use borrow.Author.Needs.{needs}
-use Rattle.terms.specs.Looked.{at}
+use Rattle.tabler_operands.specs.Looked.{at}
 use Rattle.tabler.proofs.Going.{stepped}
 use Rattle.tabler.proofs.step.step_of.Statement.{statement}
 use Rattle.tabler.proofs.step.step_of.Tie as tie

@@ -4,7 +4,7 @@ use borrow.Author.Tests.{lt-ltb, le-ltb}
 use mathlib.Core.Path.{refl}
 use Rattle.word.specs.Word.{p}
 use Rattle.tabler.proofs.Ending.{unchanged}
-use Rattle.parts.proofs.Formed.{all-formed, seen-words}
+use Rattle.inputs.proofs.Formed.{all-formed, seen-words}
 use Rattle.tabler.proofs.tests.table_words.Statement.{statement}
 use Rattle.tabler.proofs.tests.table_words.Tie as tie
 

@@ -1,0 +1,50 @@
+// Where a tuple goes: its class is its round's, its slot the first that is tried, its tag spares it the rows of
+// most others. All that is proved of them is that the class is the tuple's alone.
+use bus_tuples::Sent;
+use word::wide;
+ghost use mathlib.Core.Path.{_≡_};
+ghost use Prim.Native.Nat.{_<_};
+ghost use Rattle.bus_tuples.specs.Sent.{tupleOf};
+ghost use Rattle.bus_rounds.specs.Slots.{hashOf, classOf, Span, Tagged};
+
+// Odd numbers below 2^30, so that the sum fits 64 bits.
+fn hash(t: Sent) -> u64
+    ensures { λ r. ⌜ r ≡ hashOf (tupleOf t) ⌝ }
+{
+    668265263 * wide(t.aux)
+        + 1013904223 * wide(t.left)
+        + 374761393 * wide(t.right)
+        + 914744491 * wide(t.out)
+}
+
+pub fn class_of(t: Sent, rounds: u64) -> u64
+    requires { ⌜ 0 < rounds ⌝ }
+    ensures { λ r. ⌜ r ≡ classOf rounds (tupleOf t) ⌝ }
+{
+    hash(t) / 17203 % rounds
+}
+
+pub fn slot_of(t: Sent) -> usize
+    ensures { λ r. ⌜ r < 17203 ⌝ }
+{
+    (hash(t) % 17203) as usize
+}
+
+// How far apart the slots are that are tried for a tuple: another number for each, so that they don't crowd.
+pub fn step_of(t: Sent) -> usize
+    ensures { λ r. ⌜ r < 17203 ⌝ }
+{
+    (1 + hash(t) / 65536 % 16384) as usize
+}
+
+// Where the numbers of a tuple's tag begin. A tag is below 127 or 7, so that none of them is the number of a slot that was taken.
+pub fn low_of(t: Sent, span: u32) -> u32
+    requires { ⌜ Span span ⌝ }
+    ensures { λ r. ⌜ Tagged span r ⌝ }
+{
+    let bits = hash(t) / 16777216;
+    if span == 131072 {
+        return (131072 * (bits % 127)) as u32;
+    }
+    (2097152 * (bits % 7)) as u32
+}

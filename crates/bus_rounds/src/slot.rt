@@ -1,0 +1,116 @@
+// Slots are tried from a tuple's own on, in steps that are the tuple's too, at most 2048 of them.
+use crate::hash::low_of;
+use crate::hash::slot_of;
+use crate::hash::step_of;
+use bus_tuples::Sent;
+use bus_tuples::same;
+use bus_tuples::tuple_at;
+ghost use mathlib.Core.Path.{_≡_};
+ghost use mathlib.Core.Bool.{true, false};
+ghost use lib.ListN.{length};
+ghost use Prim.Native.Nat.{ℕ, _+_, _*_, _<_, _≤_};
+ghost use Rattle.bus_tuples.specs.Sent.{tupleOf};
+ghost use Rattle.bus_rounds.specs.Slots.{slotAt, live, waiting, Span, Room, Tagged};
+
+// How many numbers a tag has: more than the table has rows. A short table leaves more bits to the tag.
+pub fn span_of(ext: &[u8]) -> u32
+    requires { ⌜ length (now ext) ≤ 125829120 ⌝ }
+    ensures { λ r. ⌜ Room (now (ext .entry)) r ⌝ }
+{
+    if ext.len() <= 7864320 {
+        return 131072;
+    }
+    2097152
+}
+
+// A slot's number, of which two arrays hold the parts: three bytes to a slot, and not four.
+fn number(lo: u16, hi: u8) -> u32
+    ensures { λ r. ⌜ r ≡ lo + 65536 * hi ⌝ }
+{
+    lo as u32 + 65536 * (hi as u32)
+}
+
+fn after(s: usize, step: usize) -> usize
+    requires { ⌜ (s < 17203) × (step < 17203) ⌝ }
+    ensures { λ r. ⌜ r < 17203 ⌝ }
+{
+    let next = s + step;
+    if next < 17203 {
+        return next;
+    }
+    next - 17203
+}
+
+// An empty slot for tuple t; 17203 where none is found.
+pub fn empty_for(lo: &[u16; 17203], hi: &[u8; 17203], t: Sent) -> usize
+    ensures { λ r. ⌜ (r < 17203 → slotAt (now (lo .entry)) (now (hi .entry)) r ≡ 0) ⌝ }
+{
+    let step = step_of(t);
+    let mut s = slot_of(t);
+    let mut tried: usize = 0;
+    while tried < 2048 {
+        if number(lo[s], hi[s]) == 0 {
+            return s;
+        }
+        s = after(s, step);
+        tried += 1;
+    }
+    17203
+}
+
+// Whether a slot's number is of the tag that begins at low, and its row's tuple is t. A row is read only where the tag agrees.
+fn waits(ext: &[u8], x: u32, t: Sent, low: u32, span: u32) -> bool
+    requires { ⌜ Tagged span low ⌝ }
+    ensures { λ r. ⌜ (r ≡ true → waiting (now (ext .entry)) span (tupleOf t) x ≡ true) ⌝ }
+{
+    if x <= low {
+        return false;
+    }
+    if low + span <= x {
+        return false;
+    }
+    let row = (x - low - 1) as usize;
+    same(tuple_at(ext, 120 * row), t)
+}
+
+// A slot where a row with tuple t waits; 17203 where none is found. None is beyond an empty slot.
+pub fn waiting_for(ext: &[u8], lo: &[u16; 17203], hi: &[u8; 17203], span: u32, t: Sent) -> usize
+    requires { ⌜ Span span ⌝ }
+    ensures { λ r. ⌜ (r < 17203 → waiting (now (ext .entry)) span (tupleOf t) (slotAt (now (lo .entry)) (now (hi .entry)) r) ≡ true) ⌝ }
+{
+    let low = low_of(t, span);
+    let step = step_of(t);
+    let mut s = slot_of(t);
+    let mut tried: usize = 0;
+    while tried < 2048 {
+        let x = number(lo[s], hi[s]);
+        if x == 0 {
+            return 17203;
+        }
+        if waits(ext, x, t, low, span) {
+            return s;
+        }
+        s = after(s, step);
+        tried += 1;
+    }
+    17203
+}
+
+fn is_live(x: u32) -> bool
+    ensures { λ r. ⌜ r ≡ live x ⌝ }
+{
+    (x != 0) & (x != 16777215)
+}
+
+// Whether no row waits. Every slot is looked at, whatever the ones before it hold, so that the compiler looks at many at once.
+pub fn none_waits(lo: &[u16; 17203], hi: &[u8; 17203]) -> bool
+    ensures { λ r. ⌜ (r ≡ true → (s : ℕ) → s < 17203 → live (slotAt (now (lo .entry)) (now (hi .entry)) s) ≡ false) ⌝ }
+{
+    let mut none = true;
+    let mut s = 0;
+    while s < 17203 {
+        none = none & !is_live(number(lo[s], hi[s]));
+        s += 1;
+    }
+    none
+}

@@ -1,0 +1,49 @@
+-- Document 01, "The bus" and verdict 7: the execution rows and then the extension rows as one sequence of senders, in the order in which they are judged.
+use mathlib.Core.Path.{_≡_}
+use mathlib.Core.Bool.{Bool, true, false, _||_, cond}
+use Prim.Native.Nat.{ℕ, _+_, _-_, _≤_, _<_}
+use lib.Dec.{ltb}
+use Rattle.rules.specs.Given.{Given, Tables, zero?}
+use Rattle.rules.specs.Bus.{Tuple, pushed, pushes, pulled, pulls, instructionOf, balanced}
+use Rattle.judge_spec.specs.First.{first}
+use Rattle.bus_tuples.specs.Sent.{tupleOf}
+use Rattle.bus_windows.specs.declared.Tally.{Tally}
+use Rattle.bus_windows.specs.declared.Looked.{Looked}
+
+-- a tuple, how often it is pushed, and how often it is pulled
+pub record Sending : Type 0 where
+  pub tuple : Tuple
+  pub plus : ℕ
+  pub minus : ℕ
+
+abbrev pub pushSent : Given → Tables → ℕ → Sending
+pushSent g t r = record { tuple = pushed (instructionOf g t r) (t .exec r); plus = pushes (instructionOf g t r); minus = 0 }
+
+abbrev pub pullSent : Tables → ℕ → Sending
+pullSent t k = record { tuple = pulled (t .ext k); plus = 0; minus = pulls (t .ext k) }
+
+-- sender j: execution row j, and after the last of those extension row j - H
+unfoldable pub sendingOf : Given → Tables → ℕ → Sending
+sendingOf g t j = cond (ltb j (t .height)) (pushSent g t j) (pullSent t (j - t .height))
+
+abbrev pub senders : Tables → ℕ
+senders t = t .height + t .extHeight
+
+-- what the code reads of a sender; its tuple is read only where it is sent
+pub record Reads (x : Tally) (s : Sending) : Type 0 where
+  pub plus-is : x .plus ≡ s .plus
+  pub minus-is : x .minus ≡ s .minus
+  pub once : x .plus ≤ 1
+  pub thrice : x .minus ≤ 3
+  pub tuple-is : (x .plus + x .minus ≡ 0 → ⊥) → tupleOf (x .sent) ≡ s .tuple
+
+-- a sender that sends nothing, or whose tuple is pushed as often as it is pulled
+unfoldable pub equalAt : Given → Tables → ℕ → Bool
+equalAt g t j = zero? (sendingOf g t j .plus + sendingOf g t j .minus) || balanced g t (sendingOf g t j .tuple)
+
+-- what a look at the senders from one on says: the first whose tuple is unequal, or a later one with none before it
+pub record LooksFrom (g : Given) (t : Tables) (from : ℕ) (r : Looked) : Type 0 where
+  pub refuses : r .unequal ≡ true → r .at ≡ first (equalAt g t) from (senders t - from)
+  pub goes : r .unequal ≡ false → from < r .at
+  pub within : r .at ≤ senders t
+  pub left : r .unequal ≡ false → first (equalAt g t) from (senders t - from) ≡ first (equalAt g t) (r .at) (senders t - r .at)

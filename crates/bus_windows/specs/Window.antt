@@ -1,0 +1,42 @@
+-- A window: 1024 slots of tuples on the stack, each counted over both tables.
+use mathlib.Core.Path.{_≡_}
+use mathlib.Core.Bool.{true, false, cond}
+use mathlib.Core.List.{List}
+use Prim.Native.Nat.{ℕ, _+_, _*_, _≤_, _<_}
+use lib.ListN.{length, getD}
+use lib.Dec.{eqb}
+use Rattle.rules.specs.Given.{Given, Tables}
+use Rattle.rules.specs.Bus.{Tuple, total}
+use Rattle.bus_search.specs.Slots.{slotOf}
+use Rattle.bus_windows.specs.declared.Found.{Found}
+use Rattle.bus_windows.specs.Senders.{Sending, sendingOf, equalAt}
+
+-- slots that are written are as many as before
+abbrev pub SameLengths : List ℕ → List ℕ → List ℕ → List ℕ → Type 0
+SameLengths upper lower upper′ lower′ = (length upper′ ≡ length upper) × (length lower′ ≡ length lower)
+
+-- how often the senders below n push, and pull, what slot s holds
+unfoldable pub plusTo : (ℕ → Sending) → (Tuple → ℕ) → ℕ → ℕ → ℕ
+plusTo send slot s n = total (λ j. cond (eqb (slot (send j .tuple)) s) (send j .plus) 0) n
+
+unfoldable pub minusTo : (ℕ → Sending) → (Tuple → ℕ) → ℕ → ℕ → ℕ
+minusTo send slot s n = total (λ j. cond (eqb (slot (send j .tuple)) s) (send j .minus) 0) n
+
+-- a slot's count after n senders: 2^31, and what they push, less what they pull
+pub record Count (send : ℕ → Sending) (slot : Tuple → ℕ) (s n count : ℕ) : Type 0 where
+  pub net : count + minusTo send slot s n ≡ 2147483648 + plusTo send slot s n
+  pub plus-few : plusTo send slot s n ≤ n
+  pub minus-few : minusTo send slot s n ≤ 3 * n
+
+abbrev pub Counted : Given → Tables → List ℕ → List ℕ → List ℕ → ℕ → Type 0
+Counted g t upper lower net n = (s : ℕ) → s < 1024 → Count (sendingOf g t) (slotOf upper lower) s n (getD net s 0)
+
+-- the slots hold the tuple of sender j, if it sends one
+abbrev pub Holds : Given → Tables → List ℕ → List ℕ → ℕ → Type 0
+Holds g t upper lower j = (sendingOf g t j .plus + sendingOf g t j .minus ≡ 0 → ⊥) → slotOf upper lower (sendingOf g t j .tuple) < 1024
+
+-- what the window says of sender j
+pub record FoundAt (g : Given) (t : Tables) (upper lower : List ℕ) (j : ℕ) (r : Found) : Type 0 where
+  pub missing : r .absent ≡ true → Holds g t upper lower j → ⊥
+  pub differs : r .absent ≡ false → r .unequal ≡ true → equalAt g t j ≡ false
+  pub agrees : r .absent ≡ false → r .unequal ≡ false → equalAt g t j ≡ true

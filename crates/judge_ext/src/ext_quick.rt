@@ -1,0 +1,104 @@
+// The rules of an extension row but 6 to 9 by plain comparisons, with no product of a gate: they say yes on nearly every row of an accepted table.
+// So the judge tries `ext_holds` first, and asks `ext_failing` only where that says no: the row may still be right.
+use crate::accumulation::accumulates;
+use judge_lookups::looks_up;
+use judge_lookups::looks_up_five;
+use rows::Ext;
+use word::add;
+use word::mul;
+use word::sub;
+ghost use mathlib.Core.Path.{_≡_};
+ghost use mathlib.Core.Bool.{true, cond};
+ghost use Prim.Native.Nat.{ℕ};
+ghost use Rattle.word.specs.Word.{_+ₚ_, _-ₚ_, _*ₚ_};
+ghost use Rattle.rules.specs.Given.{zero?};
+ghost use Rattle.rules.specs.Extension.{selected, compTail};
+ghost use Rattle.judge_ext.specs.ExtParts.{extLookupsThen, bitsThen, samesThen, stepsThen, accumulatesThen, extFails};
+
+// Rules 18 to 21.
+fn found(memory: &[u8], x: Ext) -> bool
+    ensures { λ r. ⌜ (r ≡ true → (rest : ℕ) → extLookupsThen (now (memory .entry)) x rest ≡ rest) ⌝ }
+{
+    let left = x.vA;
+    let right = x.vB;
+    let result = x.res;
+    if !looks_up(memory, x.idxA as usize, x.base) {
+        return false;
+    }
+    if !looks_up_five(memory, x.idxA, left) {
+        return false;
+    }
+    if !looks_up_five(memory, x.idxB, right) {
+        return false;
+    }
+    looks_up_five(memory, x.idxR, result)
+}
+
+// Rules 1 to 5.
+fn all_bits(x: Ext) -> bool
+    ensures { λ r. ⌜ (r ≡ true → (rest : ℕ) → bitsThen x rest ≡ rest) ⌝ }
+{
+    (x.be <= 1) & (x.start <= 1) & (x.add <= 1) & (x.mul <= 1) & (x.peq <= 1)
+}
+
+// be + (1 - be)·5
+fn stride(be: u32) -> u32
+    ensures { λ r. ⌜ r ≡ be +ₚ (1 -ₚ be) *ₚ 5 ⌝ }
+{
+    if be == 0 {
+        return 5;
+    }
+    if be == 1 {
+        return 1;
+    }
+    add(be, mul(sub(1, be), 5))
+}
+
+// Rules 10 to 16 inside a group.
+fn continued(x: Ext, y: Ext) -> bool
+    ensures { λ r. ⌜ (r ≡ true → (inside rest : ℕ) → samesThen inside x y (stepsThen inside x y rest) ≡ cond (zero? (y .start *ₚ (x .len -ₚ 1))) rest 17) ⌝ }
+{
+    (sub(x.len, y.len) == 1)
+        & (x.be == y.be)
+        & (x.add == y.add)
+        & (x.mul == y.mul)
+        & (x.peq == y.peq)
+        & (sub(y.idxA, x.idxA) == stride(x.be))
+        & (sub(y.idxB, x.idxB) == 5)
+}
+
+// Rules 10 to 17.
+fn followed(x: Ext, y: Ext) -> bool
+    ensures { λ r. ⌜ (r ≡ true → samesThen (1 -ₚ y .start) x y (stepsThen (1 -ₚ y .start) x y 0) ≡ 0) ⌝ }
+{
+    if y.start == 1 {
+        return x.len == 1;
+    }
+    if y.start == 0 {
+        return continued(x, y);
+    }
+    false
+}
+
+// Whether these comparisons show that all rules but 6 to 9 hold.
+fn others_hold(memory: &[u8], x: Ext, y: Ext) -> bool
+    ensures { λ r. ⌜ (r ≡ true → extFails (now (memory .entry)) x y ≡ accumulatesThen x y (selected x) (compTail y) 0) ⌝ }
+{
+    if !found(memory, x) {
+        return false;
+    }
+    if !all_bits(x) {
+        return false;
+    }
+    followed(x, y)
+}
+
+// Whether these comparisons and rules 6 to 9 show that all rules hold.
+pub fn ext_holds(memory: &[u8], x: Ext, y: Ext) -> bool
+    ensures { λ r. ⌜ (r ≡ true → extFails (now (memory .entry)) x y ≡ 0) ⌝ }
+{
+    if !others_hold(memory, x, y) {
+        return false;
+    }
+    accumulates(x, y, 0) == 0
+}

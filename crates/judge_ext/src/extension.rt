@@ -1,0 +1,86 @@
+// The rules of an extension row, by the polynomials. The judge asks only where `ext_holds` says no.
+use crate::accumulation::accumulates;
+use inputs::first_of;
+use judge_lookups::gated;
+use judge_lookups::looks_up;
+use judge_lookups::looks_up_five;
+use rows::Ext;
+use word::add;
+use word::mul;
+use word::sub;
+ghost use mathlib.Core.Path.{_≡_};
+ghost use Rattle.word.specs.Word.{_-ₚ_, _*ₚ_};
+ghost use Rattle.rules.specs.Given.{zero?};
+ghost use Rattle.judge_ext.specs.ExtParts.{extLookupsThen, bitsThen, samesThen, stepsThen, extFails};
+
+fn ext_lookups(memory: &[u8], x: Ext, rest: u32) -> u32
+    ensures { λ r. ⌜ r ≡ extLookupsThen (now (memory .entry)) x rest ⌝ }
+{
+    let left = x.vA;
+    let right = x.vB;
+    let result = x.res;
+    let base = looks_up(memory, x.idxA as usize, x.base);
+    let a = looks_up_five(memory, x.idxA, left);
+    let b = looks_up_five(memory, x.idxB, right);
+    let c = looks_up_five(memory, x.idxR, result);
+    first_of(
+        18,
+        base,
+        first_of(19, a, first_of(20, b, first_of(21, c, rest))),
+    )
+}
+
+// x·(1 - x) = 0
+fn is_bit(x: u32) -> bool
+    ensures { λ r. ⌜ r ≡ zero? (x *ₚ (1 -ₚ x)) ⌝ }
+{
+    gated(x, 1, x)
+}
+
+fn bits(x: Ext, rest: u32) -> u32
+    ensures { λ r. ⌜ r ≡ bitsThen x rest ⌝ }
+{
+    let be = is_bit(x.be);
+    let start = is_bit(x.start);
+    let flags = first_of(
+        3,
+        is_bit(x.add),
+        first_of(4, is_bit(x.mul), first_of(5, is_bit(x.peq), rest)),
+    );
+    first_of(1, be, first_of(2, start, flags))
+}
+
+fn sames(inside: u32, x: Ext, y: Ext, rest: u32) -> u32
+    ensures { λ r. ⌜ r ≡ samesThen inside x y rest ⌝ }
+{
+    let len = gated(inside, sub(x.len, y.len), 1);
+    let be = gated(inside, x.be, y.be);
+    let add_flag = gated(inside, x.add, y.add);
+    let mul_flag = gated(inside, x.mul, y.mul);
+    let peq_flag = gated(inside, x.peq, y.peq);
+    let flags = first_of(
+        12,
+        add_flag,
+        first_of(13, mul_flag, first_of(14, peq_flag, rest)),
+    );
+    first_of(10, len, first_of(11, be, flags))
+}
+
+fn steps(inside: u32, x: Ext, y: Ext) -> u32
+    ensures { λ r. ⌜ r ≡ stepsThen inside x y 0 ⌝ }
+{
+    let stride = add(x.be, mul(sub(1, x.be), 5));
+    let a = gated(inside, sub(y.idxA, x.idxA), stride);
+    let b = gated(inside, sub(y.idxB, x.idxB), 5);
+    let last = gated(y.start, x.len, 1);
+    first_of(15, a, first_of(16, b, first_of(17, last, 0)))
+}
+
+// The first extension rule that fails on a row x paired with y, and 0 where all hold.
+pub fn ext_failing(memory: &[u8], x: Ext, y: Ext) -> u32
+    ensures { λ r. ⌜ r ≡ extFails (now (memory .entry)) x y ⌝ }
+{
+    let inside = sub(1, y.start);
+    let inner = sames(inside, x, y, steps(inside, x, y));
+    ext_lookups(memory, x, bits(x, accumulates(x, y, inner)))
+}

@@ -1,0 +1,118 @@
+-- What is built of a recipe with m 10 in buffers of the right lengths.
+-- Assumes nothing.
+use mathlib.Core.Bool.{true, false}
+use mathlib.Core.List.{List}
+use mathlib.Core.Path.{_≡_, refl, sym, ap, _∙_}
+use Prim.Native.Nat.{ℕ, _+_, _*_, _^_, _≤_}
+use native.Mathlib.Omega.{arith}
+use borrow.Author.Tests.{eq-eqb}
+use lib.Dec.{eqb}
+use lib.ListN.{length, take}
+use lib.Seq.{length-take-le}
+use Rattle.answer.specs.declared.Answer.{Answer}
+use Rattle.answer.specs.declared.Answer.the-variants.{
+  Accepted,
+  Size,
+  Word,
+  Instruction,
+  Start,
+  Exec,
+  Extension,
+  Bus,
+  Label,
+  Stuck,
+  Room,
+  Open,
+  Itself,
+  Buffer,
+}
+use Rattle.label.specs.Label.{ranged}
+use Rattle.label.proofs.Range.{n-high}
+use Rattle.label.specs.declared.Recipe.{Recipe}
+use Rattle.maker.specs.Bytes.{makeOf, fits, programOf, memoryOf, programAfter, memoryAfter}
+use Rattle.tabler_spec.specs.Tabled.{heldAfter}
+use Rattle.program_build.specs.Built.{accepted, buildOf, execBuilt, extBuilt}
+use Rattle.program_build.specs.Inner.{Spaces}
+use Rattle.program_build.specs.Recipes.{tabledOf, execOf, extOf}
+
+no : false ≡ true → ⊥
+no e = let z : _≡_ {A = ℕ} 0 1 = cc in omega arith
+
+-- ACCEPTED leaves what was written
+pub held : (a : Answer) (old written : List ℕ) → accepted a ≡ true → heldAfter a old written ≡ written
+held Accepted old written e = refl
+held (Size j k) old written e = absurd (no e)
+held (Word j k) old written e = absurd (no e)
+held (Instruction j) old written e = absurd (no e)
+held Start old written e = absurd (no e)
+held (Exec j k) old written e = absurd (no e)
+held (Extension j k) old written e = absurd (no e)
+held (Bus j k) old written e = absurd (no e)
+held (Label j) old written e = absurd (no e)
+held (Stuck j k) old written e = absurd (no e)
+held (Room j) old written e = absurd (no e)
+held (Open j) old written e = absurd (no e)
+held Itself old written e = absurd (no e)
+held Buffer old written e = absurd (no e)
+
+module _ (r : Recipe) (p m e x : List ℕ) (room : Spaces r (length p) (length m) (length e) (length x)) where
+  -- the four parts have room in 49,008 bytes
+  pub total-most : length p + length m + length e + length x ≤ 49008
+  total-most = omega (arith, n-high r (room .inside))
+
+  program-size : eqb (length p) (48 * (r .n + 1)) ≡ true
+  program-size = eq-eqb (length p) (48 * (r .n + 1)) (room .program-long)
+
+  memory-size : eqb (length m) (4 * 2 ^ r .m) ≡ true
+  memory-size =
+      eq-eqb (length m) (4 * 2 ^ r .m) (room .memory-long ∙ ap (λ (k : ℕ). 4 * 2 ^ k) (sym (room .ten)))
+
+  made : makeOf r (length p) (length m) ≡ Accepted
+  unfolding makeOf
+  made = rw (room .inside, program-size, memory-size)
+
+  fitting : fits r (length p) (length m) ≡ true
+  fitting = rw (room .inside, program-size, memory-size)
+
+  pub program-is : programAfter r p m ≡ programOf r
+  program-is = rw fitting
+
+  pub memory-is : memoryAfter r p m ≡ memoryOf r
+  memory-is = rw fitting
+
+  build-is : buildOf r p m e x ≡ tabledOf r
+  unfolding buildOf tabledOf
+  build-is = rw (made, program-is, memory-is, room .exec-long, room .ext-long)
+
+  -- it is accepted exactly where the tabler accepts
+  pub tabled-is : {a : Answer} → a ≡ buildOf r p m e x → accepted a ≡ accepted (tabledOf r)
+  tabled-is is = ap accepted (is ∙ build-is)
+
+  pub exec-is : accepted (tabledOf r) ≡ true → execBuilt r p m e x ≡ execOf r
+  unfolding execBuilt execOf tabledOf
+  exec-is h = rw (made, program-is, memory-is, room .exec-long, room .ext-long) (held (tabledOf r) e (execOf r) h)
+
+  pub ext-is : accepted (tabledOf r) ≡ true → extBuilt r p m e x ≡ extOf r
+  unfolding extBuilt extOf tabledOf
+  ext-is h = rw (made, program-is, memory-is, room .exec-long, room .ext-long) (held (tabledOf r) x (extOf r) h)
+
+-- the part of the longest program that a recipe's takes
+module _ (r : Recipe) (space : List ℕ) (inside : ranged r ≡ true) (long : 6000 ≡ length space) where
+  pub program-fits : 48 * (r .n + 1) ≤ length space
+  program-fits = omega (arith, n-high r inside)
+
+  pub program-part : 48 * (r .n + 1) ≡ length (take (48 * (r .n + 1)) space)
+  program-part = sym (length-take-le (48 * (r .n + 1)) space program-fits)
+
+  -- buffers of zeros, or any as long, are room for the parts
+  pub spaces : r .m ≡ 10 → {m e x : ℕ} → 4096 ≡ m → 8192 ≡ e → 30720 ≡ x
+      → Spaces r (length (take (48 * (r .n + 1)) space)) m e x
+  spaces ten m-long e-long x-long =
+      record {
+        inside = inside;
+        ten = ten;
+        program-long = sym program-part;
+        memory-long = sym m-long;
+        exec-long = sym e-long;
+        ext-long = sym x-long;
+      }

@@ -1,0 +1,36 @@
+-- Document 01, "Draws, recipe, label": what the programs build of a recipe, tabled at H = K = 256 from pc 0, fp 0.
+use Prim.Native.Nat.{ℕ, _*_}
+use mathlib.Core.List.{List, _++_}
+use Rattle.answer.specs.declared.Answer.{Answer}
+use Rattle.label.specs.declared.Recipe.{Recipe}
+use Rattle.machine.specs.Machine.{Machine, State}
+use Rattle.maker.specs.Bytes.{programOf, memoryOf}
+use Rattle.tables.specs.Rows.{stateAt}
+use Rattle.tables.specs.Bytes.{execTable, extTable}
+use Rattle.tabler_spec.specs.Tabled.{machineOf, tableOf}
+
+-- H and K
+abbrev pub height : ℕ
+height = 256
+
+module _ (r : Recipe) where
+  -- the tabler's answer
+  unfoldable pub tabledOf : Answer
+  tabledOf = tableOf (programOf r) (memoryOf r) 0 0 (32 * height) (120 * height)
+
+  abbrev machine : Machine
+  machine = machineOf (programOf r) (memoryOf r)
+
+  abbrev states : ℕ → State
+  states = stateAt machine (record { pc = 0; fp = 0 })
+
+  -- the two tables of the run
+  unfoldable pub execOf : List ℕ
+  execOf = execTable machine states height
+
+  unfoldable pub extOf : List ℕ
+  extOf = extTable machine states height height
+
+  -- parts 1 to 4 in order
+  abbrev pub partsOf : List ℕ
+  partsOf = programOf r ++ memoryOf r ++ execOf ++ extOf

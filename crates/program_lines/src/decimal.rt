@@ -1,0 +1,23 @@
+// A number in decimal.
+use crate::Digits;
+ghost use mathlib.Core.Path.{_≡_};
+ghost use Prim.Native.Nat.{_≤_};
+ghost use lib.ListN.{length, drop};
+ghost use Rattle.program_lines.specs.Line.{decimal, ended};
+
+// The digits of a number and LF, from the last to the first.
+pub fn ended_digits(number: u64) -> Digits
+    ensures { λ r. ⌜ (21 ≡ length (r .bytes)) × (r .from ≤ 21) × (drop (r .from) (r .bytes) ≡ ended (decimal number)) ⌝ }
+{
+    let mut bytes = [10u8; 21];
+    let mut i = 20;
+    let mut rest = number;
+    while 9 < rest {
+        i -= 1;
+        bytes[i] = 48 + (rest % 10) as u8;
+        rest /= 10;
+    }
+    i -= 1;
+    bytes[i] = 48 + rest as u8;
+    Digits { bytes, from: i }
+}

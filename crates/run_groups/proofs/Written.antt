@@ -1,0 +1,135 @@
+-- The other way round: a row of which Meaning is true meets every rule, next to any row whose start is 0 or 1.
+-- Assumes nothing.
+use mathlib.Core.Path.{_≡_, sym, ap}
+use mathlib.Core.Logic.{inl, inr}
+use mathlib.Core.Bool.{Bool, true, false}
+use mathlib.Core.List.{List}
+use Prim.Native.Nat.{ℕ, _+_, _<_}
+use native.Mathlib.Omega.{arith}
+use lib.Dec.{T, eqb, ltb, lt→ltb}
+use Rattle.word.specs.Word.{_+ₚ_, _-ₚ_, _*ₚ_}
+use Rattle.word.specs.Element.{_⟨_⟩, element, _·ₑ_}
+use Rattle.word.proofs.WordLaws.{difference-self}
+use Rattle.form.specs.Data.{bit}
+use Rattle.form.specs.declared.Op.the-variants.{Add, Mul, Peq}
+use Rattle.rows.specs.declared.Ext.{Ext}
+use Rattle.rules.specs.Given.{Given, zero?, zeroElement?, looksUp, looksUpFive}
+use Rattle.rules.specs.Extension.{extRules}
+use Rattle.rules.specs.Satisfies.{All}
+use Rattle.tables.specs.Groups.{leftIndex}
+use Rattle.run_groups.proofs.Tests.{and, and-five, eq→eqb}
+use Rattle.run_groups.proofs.Words.{take-two, first-zero, second-zero, first-scale, second-scale, element-difference-self, take-two-elements}
+use Rattle.run_groups.proofs.Meaning.{FiveCells, IsBit, Meaning}
+
+one-cell : (g : Given) (addr x : ℕ) → addr < g .size → x ≡ g .cell addr → T (looksUp g addr x)
+one-cell g addr x below e = and (ltb addr (g .size)) (eqb x (g .cell addr)) (lt→ltb addr (g .size) below) (eq→eqb e)
+
+five-cells : (g : Given) (addr : ℕ) (a : List ℕ) → FiveCells g addr a → T (looksUpFive g addr a)
+five-cells g addr a f =
+    and-five (looksUp g addr (a ⟨ 0 ⟩)) (looksUp g (addr + 1) (a ⟨ 1 ⟩)) (looksUp g (addr + 2) (a ⟨ 2 ⟩))
+    (looksUp g (addr + 3) (a ⟨ 3 ⟩)) (looksUp g (addr + 4) (a ⟨ 4 ⟩))
+    (one-cell g addr (a ⟨ 0 ⟩) (omega arith) (ap (λ (l : List ℕ). l ⟨ 0 ⟩) (f .hold)))
+    (one-cell g (addr + 1) (a ⟨ 1 ⟩) (omega arith) (ap (λ (l : List ℕ). l ⟨ 1 ⟩) (f .hold)))
+    (one-cell g (addr + 2) (a ⟨ 2 ⟩) (omega arith) (ap (λ (l : List ℕ). l ⟨ 2 ⟩) (f .hold)))
+    (one-cell g (addr + 3) (a ⟨ 3 ⟩) (omega arith) (ap (λ (l : List ℕ). l ⟨ 3 ⟩) (f .hold)))
+    (one-cell g (addr + 4) (a ⟨ 4 ⟩) (omega arith) (ap (λ (l : List ℕ). l ⟨ 4 ⟩) (f .hold)))
+
+is-bit : (x : ℕ) → IsBit x → T (zero? (x *ₚ (1 -ₚ x)))
+unfolding _*ₚ_ _-ₚ_
+is-bit x (inl z) = rw z tt
+is-bit x (inr one) = rw one tt
+
+-- an element rule under a flag
+under : (f : ℕ) (a : List ℕ) → IsBit f → (f ≡ 1 → a ≡ element 0) → T (zeroElement? (f ·ₑ a))
+under f a (inl z) e = first-scale f a z
+under f a (inr one) e = second-scale f a (e one)
+
+-- a rule that holds inside a group alone, and the one that holds at its end alone
+within : (s x : ℕ) → IsBit s → (s ≡ 0 → x ≡ 0) → T (zero? ((1 -ₚ s) *ₚ x))
+within s x (inl z) e = second-zero (1 -ₚ s) x (e z)
+within s x (inr one) e = first-zero (1 -ₚ s) x (rw one (difference-self 1))
+
+at-end : (s x : ℕ) → IsBit s → (s ≡ 1 → x ≡ 0) → T (zero? (s *ₚ x))
+at-end s x (inl z) e = first-zero s x z
+at-end s x (inr one) e = second-zero s x (e one)
+
+same : (x y : ℕ) → y ≡ x → x -ₚ y ≡ 0
+same x y e = rw e (difference-self x)
+
+on : (i j k : ℕ) → j ≡ i + k → j -ₚ i -ₚ k ≡ 0
+unfolding _-ₚ_
+on i j k e = omega arith
+
+stride : (b i j : ℕ) → IsBit b → ((be : Bool) → b ≡ bit be → j ≡ leftIndex be i 1) → j -ₚ i -ₚ (b +ₚ (1 -ₚ b) *ₚ 5) ≡ 0
+unfolding _+ₚ_ _-ₚ_ _*ₚ_
+stride b i j (inl z) e = rw z (on i j 5 (e false z))
+stride b i j (inr one) e = rw one (on i j 1 (e true one))
+
+pub written : (g : Given) (x y : Ext) → IsBit (y .start) → Meaning g x y → All (extRules g x y)
+unfolding extRules
+written g x y s m =
+    let l = m .looked in
+    let b = m .bits in (
+      one-cell g (x .idxA) (x .base) (omega arith) (l .base),
+      (
+        five-cells g (x .idxA) (x .vA) (l .vA),
+        (
+          five-cells g (x .idxB) (x .vB) (l .vB),
+          (
+            five-cells g (x .idxR) (x .res) (l .res),
+            (
+              is-bit (x .be) (b .be),
+              (
+                is-bit (x .start) (b .start),
+                (
+                  is-bit (x .add) (b .add),
+                  (
+                    is-bit (x .mul) (b .mul),
+                    (
+                      is-bit (x .peq) (b .peq),
+                      (
+                        under (x .add) _ (b .add) (λ one. take-two-elements _ _ _ (m .accumulates Add one)),
+                        (
+                          under (x .mul) _ (b .mul) (λ one. take-two-elements _ _ _ (m .accumulates Mul one)),
+                          (
+                            under (x .peq) _ (b .peq) (λ one. element-difference-self _ _ (m .accumulates Peq one)),
+                            (
+                              under (x .start) _ (b .start) (λ one. element-difference-self _ _ (m .ends-in-result one)),
+                              (
+                                within (y .start) _ s (λ z. take-two (x .len) (y .len) 1 (m .goes-on z .len)),
+                                (
+                                  within (y .start) _ s (λ z. same _ _ (m .goes-on z .be)),
+                                  (
+                                    within (y .start) _ s (λ z. same _ _ (m .goes-on z .add)),
+                                    (
+                                      within (y .start) _ s (λ z. same _ _ (m .goes-on z .mul)),
+                                      (
+                                        within (y .start) _ s (λ z. same _ _ (m .goes-on z .peq)),
+                                        (
+                                          within (y .start) _ s (λ z. stride (x .be) (x .idxA) (y .idxA) (b .be) (m .goes-on z .idxA)),
+                                          (
+                                            within (y .start) _ s (λ z. on (x .idxB) (y .idxB) 5 (m .goes-on z .idxB)),
+                                            (
+                                              at-end (y .start) _ s (λ one. same (x .len) 1 (sym (m .ends one))),
+                                              tt,
+                                            ),
+                                          ),
+                                        ),
+                                      ),
+                                    ),
+                                  ),
+                                ),
+                              ),
+                            ),
+                          ),
+                        ),
+                      ),
+                    ),
+                  ),
+                ),
+              ),
+            ),
+          ),
+        ),
+      ),
+    )

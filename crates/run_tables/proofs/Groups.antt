@@ -1,0 +1,86 @@
+-- The extension table of legal steps: inside a group a row is followed by the group's next row, at a group's end by a row that starts one,
+-- and padding by padding.
+-- Assumes nothing.
+use mathlib.Core.Path.{_≡_, refl, sym, _∙_}
+use mathlib.Core.Bool.{Bool, true, false, cond}
+use Prim.Native.Nat.{ℕ, suc, _+_, _≤_, _<_}
+use native.Mathlib.Omega.{arith}
+use borrow.Author.Tests.{ltb-true, ltb-false, lt-ltb}
+use lib.Dec.{ltb}
+use Rattle.rows.specs.declared.Ext.{Ext}
+use Rattle.rules.specs.Given.{Given, next}
+use Rattle.rules.specs.Extension.{extRules}
+use Rattle.rules.specs.Satisfies.{All}
+use Rattle.machine.specs.Machine.{Machine, State}
+use Rattle.tables.specs.Groups.{lengthAt, extRowOf, filled}
+use Rattle.run_steps.specs.Setting.{machineOf, Fit}
+use Rattle.run_groups.proofs.Meaning.{RowWords}
+use Rattle.run_groups.proofs.Padding.{padding-words, padding-rules, padding-start}
+use Rattle.run_tables.proofs.Places.{Where, filled-on, filled-grows, find, row-of, row-past}
+use Rattle.run_tables.proofs.Places.Where.{group, past}
+use Rattle.run_tables.proofs.Steps.{Calls, step-starts, step-words, step-inside, step-seam}
+
+next-later : (n r : ℕ) → r ≤ next n r
+next-later n r = go (ltb (r + 1) n)
+  where
+    go : (b : Bool) → r ≤ cond b (r + 1) r
+    go true = omega arith
+    go false = omega arith
+
+next-inside : (n r : ℕ) → r + 1 < n → next n r ≡ r + 1
+next-inside n r h = rw (lt-ltb (r + 1) n h)
+
+-- a row that lies where a group ends, or where the first one starts, is the first of its own
+first-there : (m : Machine) (state : ℕ → State) (r r' j : ℕ) → j < lengthAt m (state r') → filled m state r ≡ filled m state r' + j → j ≡ 0
+first-there m state r r' j l e = go (ltb r' r) refl
+  where
+    go : (b : Bool) → ltb r' r ≡ b → j ≡ 0
+    go true c = absurd (omega (arith, filled-on m state r', filled-grows m state (suc r') r (ltb-true r' r c)))
+    go false c = omega (arith, filled-grows m state r r' (ltb-false r' r c))
+
+module _ (g : Given) (state : ℕ → State) (height : ℕ) where
+  -- so it starts a group, or is padding
+  seam-starts : (r k : ℕ) → k ≡ filled (machineOf g) state r → extRowOf (machineOf g) state 0 height k .start ≡ 1
+  seam-starts r k at = go (find (machineOf g) state height k)
+    where
+      go : Where (machineOf g) state height k → extRowOf (machineOf g) state 0 height k .start ≡ 1
+      go (past h) = rw (row-past (machineOf g) state height k h) (padding-start (g .cell))
+      go (group r' j h l e) =
+          let first = first-there (machineOf g) state r r' j l (sym at ∙ e) in
+          rw (row-of (machineOf g) state height k r' j h l e, first) (step-starts g (state r') (omega arith))
+
+  module _ (fit : Fit g) (five : 5 ≤ g .size) (calls : (r : ℕ) → r < height → Calls g (state r)) where
+    pub group-words : (k : ℕ) → RowWords (extRowOf (machineOf g) state 0 height k)
+    group-words k = go (find (machineOf g) state height k)
+      where
+        go : Where (machineOf g) state height k → RowWords (extRowOf (machineOf g) state 0 height k)
+        go (past h) = rw (row-past (machineOf g) state height k h) (padding-words g five (fit .cells))
+        go (group r j h l e) = rw (row-of (machineOf g) state height k r j h l e) (step-words g (state r) (calls r h) j l)
+
+    pub group-rules : (extHeight : ℕ) → filled (machineOf g) state height + 1 ≤ extHeight → (k : ℕ)
+        → All (extRules g (extRowOf (machineOf g) state 0 height k) (extRowOf (machineOf g) state 0 height (next extHeight k)))
+    group-rules extHeight room k = go (find (machineOf g) state height k)
+      where
+        ext : ℕ → Ext
+        ext = extRowOf (machineOf g) state 0 height
+
+        within : (r j : ℕ) → r < height → j < lengthAt (machineOf g) (state r) → k ≡ filled (machineOf g) state r + j → (b : Bool)
+            → ltb (j + 1) (lengthAt (machineOf g) (state r)) ≡ b → All (extRules g (ext k) (ext (k + 1)))
+        within r j h l e true c =
+            let more = ltb-true _ _ c in
+            rw (row-of (machineOf g) state height k r j h l e, row-of (machineOf g) state height (k + 1) r (j + 1) h more (omega arith))
+            (step-inside g (state r) (calls r h) j more)
+        within r j h l e false c =
+            let last : lengthAt (machineOf g) (state r) ≤ j + 1 = ltb-false _ _ c in
+            let end : j + 1 ≡ lengthAt (machineOf g) (state r) = omega arith in
+            rw (row-of (machineOf g) state height k r j h l e)
+            (step-seam g (state r) (calls r h) j end _ (seam-starts (suc r) (k + 1) (omega (arith, filled-on (machineOf g) state r))))
+
+        go : Where (machineOf g) state height k → All (extRules g (ext k) (ext (next extHeight k)))
+        go (past h) =
+            rw (row-past (machineOf g) state height k h)
+            (padding-rules g five _
+            (rw (row-past (machineOf g) state height (next extHeight k) (omega (arith, next-later extHeight k))) (padding-start (g .cell))))
+        go (group r j h l e) =
+            let inside : k + 1 < extHeight = omega (arith, filled-on (machineOf g) state r, filled-grows (machineOf g) state (suc r) height h) in
+            rw (next-inside extHeight k inside) (within r j h l e _ refl)

@@ -1,0 +1,90 @@
+// What a step's operands read: each is looked at once, for the step and for its row.
+use crate::Looked;
+use crate::Operands;
+use form::Form;
+use form::Kind;
+use form::Mode;
+use form::Operand;
+use tabler_cells::cell;
+use word::add;
+ghost use mathlib.Core.Path.{_≡_};
+ghost use mathlib.Core.List.{List};
+ghost use Prim.Native.Nat.{ℕ, _/_};
+ghost use lib.ListN.{length};
+ghost use Rattle.word.specs.Word.{_+ₚ_};
+ghost use Rattle.rules.specs.Sizes.{wordOf};
+ghost use Rattle.machine.specs.Machine.{value};
+ghost use Rattle.tabler_spec.specs.Tabled.{machineOf};
+ghost use Rattle.tabler_operands.specs.Looked.{at, lookedOf, targeted, lookedB, operandsOf};
+
+// A cell read is legal where the cell exists; an operand that reads none has column 0.
+fn look(memory: &[u8], fp: u32, o: Operand) -> Looked
+    ensures { λ r. ⌜ ((program : List ℕ) (pc : ℕ) → r ≡ lookedOf (machineOf program (now (memory .entry))) (at pc fp) o) ⌝ }
+{
+    let mode = o.mode;
+    match mode {
+        Mode::Immediate => Looked {
+            legal: true,
+            addr: 0,
+            cell: cell(memory, 0),
+            value: o.word,
+        },
+        Mode::Cell => {
+            let k = add(fp, o.word);
+            let x = cell(memory, k as usize);
+            Looked {
+                legal: (k as usize) < memory.len() / 4,
+                addr: k,
+                cell: x,
+                value: x,
+            }
+        }
+        Mode::Frame => Looked {
+            legal: true,
+            addr: 0,
+            cell: cell(memory, 0),
+            value: add(fp, o.word),
+        },
+    }
+}
+
+// DEREF's target is the cell at the sum of its operands A and B.
+fn look_target(memory: &[u8], a: u32, b: Looked) -> Looked
+    ensures { λ r. ⌜ r ≡ targeted (wordOf (now (memory .entry))) (length (now (memory .entry)) / 4) (a +ₚ b .value) b ⌝ }
+{
+    let k = add(a, b.value);
+    Looked {
+        legal: b.legal & ((k as usize) < memory.len() / 4),
+        addr: k,
+        cell: cell(memory, k as usize),
+        value: b.value,
+    }
+}
+
+// Operand B, where A's value is a: DEREF has its target's column.
+fn look_b(memory: &[u8], fp: u32, f: Form, a: u32) -> Looked
+    ensures { λ r. ⌜ ((program : List ℕ) (pc : ℕ) → a ≡ value (machineOf program (now (memory .entry))) (at pc fp) (f .a) → r ≡ lookedB (machineOf program (now (memory .entry))) (at pc fp) f (f .kind)) ⌝ }
+{
+    let kind = f.kind;
+    let b = f.b;
+    let x = look(memory, fp, b);
+    match kind {
+        Kind::Add => x,
+        Kind::Mul => x,
+        Kind::Deref => look_target(memory, a, x),
+        Kind::Jump => x,
+        Kind::Extension { op: _, be: _, n: _ } => x,
+    }
+}
+
+// All three operands, on an untaken jump too.
+pub fn look_all(memory: &[u8], fp: u32, f: Form) -> Operands
+    ensures { λ r. ⌜ ((program : List ℕ) (pc : ℕ) → r ≡ operandsOf (machineOf program (now (memory .entry))) (at pc fp) f) ⌝ }
+{
+    let a = f.a;
+    let c = f.c;
+    let x = look(memory, fp, a);
+    let y = look_b(memory, fp, f, x.value);
+    let z = look(memory, fp, c);
+    Operands { a: x, b: y, c: z }
+}

@@ -1,0 +1,12 @@
+-- Each element is cells 0 to 4.
+use borrow.Author.Needs.{needs}
+use Rattle.tables.specs.Groups.{padding}
+use Rattle.tabler_rows.proofs.padding.padding_row.Statement.{statement}
+use Rattle.tabler_rows.proofs.padding.padding_row.Tie as tie
+
+returns : tie.Need-returns
+unfolding padding
+returns c = cc
+
+pub padding-row-spec : {M : Type 1} → statement M
+padding-row-spec = tie.close (tie.spec (λ c κs. search needs) (λ c κs. search needs) returns)

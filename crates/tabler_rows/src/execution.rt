@@ -1,0 +1,38 @@
+// The execution row of a step, through its own bytes of the table.
+use rows::Exec;
+use rows::put_exec;
+use tabler_operands::Operands;
+ghost use mathlib.Core.Path.{_≡_};
+ghost use Rattle.tabler_rows.specs.Placed.{rowBy, withRow};
+
+// The execution row of a state whose operands were looked at.
+fn row_of(pc: u32, fp: u32, o: Operands) -> Exec
+    ensures { λ r. ⌜ r ≡ rowBy pc fp o ⌝ }
+{
+    let a = o.a;
+    let b = o.b;
+    let c = o.c;
+    Exec {
+        pc,
+        fp,
+        addrA: a.addr,
+        addrB: b.addr,
+        addrC: c.addr,
+        valueA: a.cell,
+        valueB: b.cell,
+        valueC: c.cell,
+    }
+}
+
+// That row, through the 32 bytes of row r.
+pub fn put_row(pc: u32, fp: u32, o: Operands, r: usize, exec: &mut [u8])
+    ensures { λ _. ⌜ now (exec .exit) ≡ withRow (rowBy pc fp o) r (now (exec .entry)) ⌝ }
+{
+    if exec.len() / 32 <= r {
+        return;
+    }
+    let row = row_of(pc, fp, o);
+    let at = 32 * r;
+    let end = at + 32;
+    put_exec(&mut exec[at..end], row);
+}
