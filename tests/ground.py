@@ -1,5 +1,5 @@
 #!/usr/bin/env python3
-"""What crates/ground prints, computed from document 01 alone by plain integers and polynomials: python3 tests/ground.py > crates/ground/stdout"""
+"""What crates/test_ground prints, computed from document 01 alone by plain integers and polynomials: python3 tests/ground.py > crates/test_ground/stdout"""
 
 P = 2**31 - 2**24 + 1
 EDGES = [0, 1, P - 1, P, P + 1, 2 * P, 2 * P + 1, 2**32 - 1]

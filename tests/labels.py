@@ -1,4 +1,4 @@
-"""Texts and recipes for the program `labels`, and what it must print, from document 01 alone.
+"""Texts and recipes for the program `test_labels`, and what it must print, from document 01 alone.
 
   python3 tests/labels.py stdin     the program's standard input
   python3 tests/labels.py stdout    what it must write

@@ -1,4 +1,4 @@
-"""Small tables for the program `trials`, and what it must print of them, computed by the second implementation (tests/oracle.py).
+"""Small tables for the program `test_trials`, and what it must print of them, computed by the second implementation (tests/oracle.py).
 
   python3 tests/trials.py stdin     the program's standard input
   python3 tests/trials.py stdout    what it must write

@@ -19,7 +19,7 @@ use Rattle.bus_tuples.proofs.Totals.{one-more, counts-none, total-zero, total-s
 use Rattle.bus_tuples.proofs.Pulling.{pulls-none, pulls-one}
 
 -- no row waits where no slot is live
-dead : (ext : List ℕ) (span : ℕ) (σ : Tuple) (x : ℕ) → live x ≡ false → cond (waiting ext span σ x) 1 0 ≡ 0
+dead : (ext : List ℕ) (span : ℕ) (σ : Tuple) (x : ℕ) → live x ≡ false → _≡_ {A = ℕ} (cond (waiting ext span σ x) 1 0) 0
 unfolding waiting
 dead ext span σ x e = rw e
 
@@ -89,7 +89,7 @@ slot-taken ext span τ lo hi q size inside waits =
       size = size-set lo hi size q 65535 255 inside;
       held = λ σ.
           let gone = dead ext span σ 16777215 refl in
-          let was = ap (λ b. cond b 1 0) (waits-same ext span τ σ (slotAt lo hi q) waits) in
+          let was = ap {B = ℕ} (λ b. cond b 1 0) (waits-same ext span τ σ (slotAt lo hi q) waits) in
           omega (arith, held-set lo hi size q 65535 255 inside ext span σ 17203 inside);
     }
 
