@@ -1,6 +1,6 @@
 -- Cases by a test, each with the equation that says which; and tests that all hold.
 -- Assumes nothing.
-use mathlib.Core.Path.{_≡_, refl}
+use mathlib.Core.Path.{_≡_, refl, sym}
 use mathlib.Core.Bool.{Bool, true, false, cond, _&&_, _||_, false≢true}
 use mathlib.Core.List.{List, [], _∷_}
 
@@ -13,6 +13,12 @@ by-test P false t f = f refl
 pub either : {P : Type 0} (a b : Bool) → (a ≡ true → P) → (b ≡ true → P) → a || b ≡ true → P
 either true b f g e = f refl
 either false b f g e = g e
+
+-- two tests that hold at once are one
+pub same-test : (a b : Bool) → (a ≡ true → b ≡ true) → (b ≡ true → a ≡ true) → a ≡ b
+same-test true b f g = sym (f refl)
+same-test false true f g = g refl
+same-test false false f g = refl
 
 -- tests joined from the left, and that each of them is true
 abbrev pub alls : Bool → List Bool → Bool
