@@ -7,7 +7,7 @@ use Prim.Native.Nat.{ℕ, _+_, _≤_}
 use native.Mathlib.Omega.{arith}
 use lib.Dec.{eqb}
 use borrow.Author.Tests.{eqb-true, leb-true}
-use Rattle.form.proofs.Cases.{by-test, either, each}
+use Rattle.word.proofs.Tests.{by-test, either, each}
 use Rattle.form.specs.Data.{Call, None, Of, readData, isCall}
 use Rattle.form.specs.Form.{flag, flagsFit, opcode, plain, isAdd, isMul, isDeref, isJump, operandOf, formOf, extensionOf, decodeOf, isWell, wellFormed}
 use Rattle.form.specs.declared.Instruction.{Instruction}
