@@ -1,6 +1,6 @@
 -- How often a row pushes and pulls: what opcode words of a kind and flags that are 0 or 1 leave of it.
 -- Assumes nothing.
-use mathlib.Core.Path.{_≡_, sym}
+use mathlib.Core.Path.{_≡_, sym, _∙_}
 use mathlib.Core.Bool.{Bool, true, false, not, cond}
 use mathlib.Core.List.{[], _∷_}
 use Prim.Native.Nat.{ℕ, _+_, _≤_}
@@ -13,7 +13,7 @@ use Rattle.form.specs.Form.{wellFormed, opcode}
 use Rattle.form.specs.declared.Instruction.{Instruction}
 use Rattle.form.specs.declared.Kind.{Kind}
 use Rattle.form.specs.declared.Kind.the-variants.{Add, Mul, Deref, Jump, Extension}
-use Rattle.form.proofs.Cases.{each, cond as one-of}
+use Rattle.form.proofs.Cases.{each, either as one-of}
 use Rattle.form.proofs.Forms.{Words, Opcode, well, formed-of}
 use Rattle.rows.specs.declared.Ext.{Ext}
 use Rattle.rules.specs.Bus.{pushes, pulls}
@@ -51,7 +51,11 @@ module _ (i : Instruction) where
       let mul : opcode i 1 0 0 ≡ true → cond (opcode i 0 0 0) 1 0 ≡ pushes i =
       λ e. let o = words-of 1 0 0 e in rw (o .mul-is, o .jump-is, o .aux-is) in
       let jump : opcode i 0 1 0 ≡ true → cond (opcode i 0 0 0) 1 0 ≡ pushes i =
-      λ e. let o = words-of 0 1 0 e in rw (o .mul-is, o .jump-is, o .aux-is) in
+      λ e.
+      let o = words-of 0 1 0 e in
+      let none : _≡_ {A = ℕ} (cond (opcode i 0 0 0) 1 0) 0 = rw (o .mul-is, o .jump-is) in
+      let same : pushes i ≡ 0 = rw (o .mul-is, o .jump-is, o .aux-is) in
+      none ∙ sym same in
       one-of _ _ (one-of _ _ (one-of _ _ (one-of _ _ extension add) deref) mul) jump
 
 -- what the code finds says how often
