@@ -1,4 +1,4 @@
--- Document 01, "Layouts" and "Verdicts" SIZE: which part is of bad length, and what lengths that fit are.
+-- Inner: which part is of bad length, and what lengths that fit are.
 use mathlib.Core.Bool.{cond}
 use mathlib.Core.Path.{_≡_}
 use Prim.Native.Nat.{ℕ, _*_, _%_, _≤_, _^_}

@@ -1,5 +1,5 @@
 // The rules of an execution row by plain comparisons, with no product of a gate: they say yes on nearly every row of an accepted table.
-// So the judge tries `exec_holds` first, and asks `exec_failing` only where that says no: the row may still be right.
+// Where they say no the row may still be right.
 use form::Instruction;
 use judge_lookups::looks_up;
 use rows::Exec;
@@ -85,7 +85,7 @@ fn moved(j: u32, x: Exec, y: Exec, a: u32, b: u32, c: u32) -> bool
 }
 
 // Whether these comparisons show that all rules hold.
-pub fn exec_holds(count: usize, memory: &[u8], x: Exec, y: Exec, i: Instruction) -> bool
+pub(crate) fn exec_holds(count: usize, memory: &[u8], x: Exec, y: Exec, i: Instruction) -> bool
     ensures { λ r. ⌜ (r ≡ true → execFails count (now (memory .entry)) x y i ≡ 0) ⌝ }
 {
     let a = picked(i.fa, i.fpab, i.a, x.addrA, x.valueA, x.fp);

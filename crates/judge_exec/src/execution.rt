@@ -1,4 +1,4 @@
-// The rules of an execution row, by the polynomials. The judge asks only where `exec_holds` says no.
+// The rules of an execution row, by the polynomials.
 use form::Instruction;
 use inputs::first_of;
 use judge_lookups::gated;
@@ -129,8 +129,8 @@ fn jumps(j: u32, x: Exec, y: Exec, a: u32, b: u32, c: u32) -> u32
     first_of(12, condition, first_of(13, dest, first_of(14, frame, last)))
 }
 
-// The first execution rule that fails on a row x paired with y, and 0 where all hold.
-pub fn exec_failing(count: usize, memory: &[u8], x: Exec, y: Exec, i: Instruction) -> u32
+// The first rule that fails, and 0 where all hold.
+pub(crate) fn exec_computed(count: usize, memory: &[u8], x: Exec, y: Exec, i: Instruction) -> u32
     ensures { λ r. ⌜ r ≡ execFails count (now (memory .entry)) x y i ⌝ }
 {
     let a = selected(i.fa, i.fpab, i.a, x.valueA, x.fp);

@@ -1,7 +1,7 @@
 -- Each call gives the definition's part.
 use borrow.Author.Needs.{needs}
-use Rattle.judge_ext.proofs.extension.ext_failing.Statement.{statement}
-use Rattle.judge_ext.proofs.extension.ext_failing.Tie as tie
+use Rattle.judge_ext.proofs.extension.ext_computed.Statement.{statement}
+use Rattle.judge_ext.proofs.extension.ext_computed.Tie as tie
 
 returns : tie.Need-returns
 returns c =
@@ -14,8 +14,8 @@ returns c =
       c .before .before .before .before .before .sub .ensures,
     )
 
-pub ext-failing-spec : {M : Type 1} → statement M
-ext-failing-spec =
+pub ext-computed-spec : {M : Type 1} → statement M
+ext-computed-spec =
     tie.close
     (tie.spec
     (λ c κs. search needs)

@@ -1,7 +1,7 @@
 -- Each call gives the definition's part.
 use borrow.Author.Needs.{needs}
-use Rattle.judge_exec.proofs.execution.exec_failing.Statement.{statement}
-use Rattle.judge_exec.proofs.execution.exec_failing.Tie as tie
+use Rattle.judge_exec.proofs.execution.exec_computed.Statement.{statement}
+use Rattle.judge_exec.proofs.execution.exec_computed.Tie as tie
 
 returns : tie.Need-returns
 returns c =
@@ -23,8 +23,8 @@ returns c =
       selected .ensures,
     )
 
-pub exec-failing-spec : {M : Type 1} → statement M
-exec-failing-spec =
+pub exec-computed-spec : {M : Type 1} → statement M
+exec-computed-spec =
     tie.close
     (tie.spec
     (λ c κs. search needs)
