@@ -104,8 +104,5 @@ pub fn program_walk(program: &[u8]) -> Walked
         words = words & twelve_words(program, i);
         i += 1;
     }
-    Walked {
-        at: i,
-        words,
-    }
+    Walked { at: i, words }
 }

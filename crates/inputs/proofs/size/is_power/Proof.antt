@@ -29,8 +29,8 @@ loop-again c =
     let args = c .before .before .before .args in (
       omega arith,
       loop .inv .1
-      ∙ miss (args .n) (args .low) (loop .k) (omega arith) (c .before .loop-test .taken)
-      (λ e. c .if1 .left (e ∙ sym (shifted (loop .k) (omega arith)))),
+          ∙ miss (args .n) (args .low) (loop .k) (omega arith) (c .before .loop-test .taken)
+          (λ e. c .if1 .left (e ∙ sym (shifted (loop .k) (omega arith)))),
     )
 
 returns-2 : tie.Need-returns-2 Inv-loop μ-loop
