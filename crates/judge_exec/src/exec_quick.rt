@@ -35,13 +35,10 @@ fn picked(flag: u32, fp_flag: u32, operand: u32, addr: u32, value: u32, fp: u32)
     NONE
 }
 
-// Rules 1 to 4.
-fn found(count: usize, memory: &[u8], x: Exec) -> bool
-    ensures { λ r. ⌜ (r ≡ true → (rest : ℕ) → lookupsThen count (now (memory .entry)) x rest ≡ rest) ⌝ }
+// Rules 2 to 4.
+fn found(memory: &[u8], x: Exec) -> bool
+    ensures { λ r. ⌜ (r ≡ true → (rest : ℕ) → lookupsThen (now (memory .entry)) x rest ≡ rest) ⌝ }
 {
-    if count <= (x.pc as usize) {
-        return false;
-    }
     if !looks_up(memory, x.addrA as usize, x.valueA) {
         return false;
     }
@@ -84,9 +81,9 @@ fn moved(j: u32, x: Exec, y: Exec, a: u32, b: u32, c: u32) -> bool
     (j == 1) & (a == 1) & (y.pc == b) & (y.fp == c)
 }
 
-// Whether these comparisons show that all rules hold.
-pub(crate) fn exec_holds(count: usize, memory: &[u8], x: Exec, y: Exec, i: Instruction) -> bool
-    ensures { λ r. ⌜ (r ≡ true → execFails count (now (memory .entry)) x y i ≡ 0) ⌝ }
+// Whether these comparisons show that all rules but 1 hold.
+pub(crate) fn exec_holds(memory: &[u8], x: Exec, y: Exec, i: Instruction) -> bool
+    ensures { λ r. ⌜ (r ≡ true → execFails (now (memory .entry)) x y i ≡ 0) ⌝ }
 {
     let a = picked(i.fa, i.fpab, i.a, x.addrA, x.valueA, x.fp);
     let b = picked(i.fb, i.fpab, i.b, x.addrB, x.valueB, x.fp);
@@ -94,7 +91,7 @@ pub(crate) fn exec_holds(count: usize, memory: &[u8], x: Exec, y: Exec, i: Instr
     if (2130706433 <= a) | (2130706433 <= b) | (2130706433 <= c) {
         return false;
     }
-    if !found(count, memory, x) {
+    if !found(memory, x) {
         return false;
     }
     if !operated(i, x, a, b, c) {

@@ -44,17 +44,13 @@ pub fn selected(flag: u32, fp_flag: u32, operand: u32, value: u32, fp: u32) -> u
     )
 }
 
-fn lookups(count: usize, memory: &[u8], x: Exec, rest: u32) -> u32
-    ensures { λ r. ⌜ r ≡ lookupsThen count (now (memory .entry)) x rest ⌝ }
+fn lookups(memory: &[u8], x: Exec, rest: u32) -> u32
+    ensures { λ r. ⌜ r ≡ lookupsThen (now (memory .entry)) x rest ⌝ }
 {
     let a = looks_up(memory, x.addrA as usize, x.valueA);
     let b = looks_up(memory, x.addrB as usize, x.valueB);
     let c = looks_up(memory, x.addrC as usize, x.valueC);
-    first_of(
-        1,
-        (x.pc as usize) < count,
-        first_of(2, a, first_of(3, b, first_of(4, c, rest))),
-    )
+    first_of(2, a, first_of(3, b, first_of(4, c, rest)))
 }
 
 fn address_holds(flag: u32, fp_flag: u32, addr: u32, fp: u32, operand: u32) -> bool
@@ -129,16 +125,15 @@ fn jumps(j: u32, x: Exec, y: Exec, a: u32, b: u32, c: u32) -> u32
     first_of(12, condition, first_of(13, dest, first_of(14, frame, last)))
 }
 
-// The first rule that fails, and 0 where all hold.
-pub(crate) fn exec_computed(count: usize, memory: &[u8], x: Exec, y: Exec, i: Instruction) -> u32
-    ensures { λ r. ⌜ r ≡ execFails count (now (memory .entry)) x y i ⌝ }
+// The first rule after rule 1 that fails, and 0 where all hold.
+pub(crate) fn exec_computed(memory: &[u8], x: Exec, y: Exec, i: Instruction) -> u32
+    ensures { λ r. ⌜ r ≡ execFails (now (memory .entry)) x y i ⌝ }
 {
     let a = selected(i.fa, i.fpab, i.a, x.valueA, x.fp);
     let b = selected(i.fb, i.fpab, i.b, x.valueB, x.fp);
     let c = selected(i.fc, i.fpc, i.c, x.valueC, x.fp);
     let last = jumps(mul(i.jump, a), x, y, a, b, c);
     lookups(
-        count,
         memory,
         x,
         addresses(i, x, operations(i, x, a, b, c, last)),

@@ -5,17 +5,26 @@ mod execution;
 use exec_quick::exec_holds;
 use execution::exec_computed;
 pub use execution::selected;
-use form::Instruction;
+use form::instruction_inside;
 use rows::Exec;
 ghost use mathlib.Core.Path.{_≡_};
-ghost use Rattle.judge_exec.specs.Parts.{execFails};
+ghost use Prim.Native.Nat.{_*_};
+ghost use Rattle.form.specs.Instruction.{instructionAt};
+ghost use Rattle.rules.specs.Execution.{execRules};
+ghost use Rattle.rules.specs.Sizes.{given};
+ghost use Rattle.judge_spec.specs.First.{failing};
 
 // The first execution rule that fails on a row x paired with y, and 0 where all hold. Only where comparisons say no are the polynomials taken.
-pub fn exec_failing(count: usize, memory: &[u8], x: Exec, y: Exec, i: Instruction) -> u32
-    ensures { λ r. ⌜ r ≡ execFails count (now (memory .entry)) x y i ⌝ }
+pub fn exec_failing(program: &[u8], memory: &[u8], x: Exec, y: Exec) -> u32
+    ensures { λ r. ⌜ r ≡ failing (execRules (given (now (program .entry)) (now (memory .entry))) x y (instructionAt (now (program .entry)) (48 * x .pc))) ⌝ }
 {
-    if exec_holds(count, memory, x, y, i) {
+    let pc = x.pc as usize;
+    if program.len() / 48 <= pc {
+        return 1;
+    }
+    let i = instruction_inside(program, 48 * pc);
+    if exec_holds(memory, x, y, i) {
         return 0;
     }
-    exec_computed(count, memory, x, y, i)
+    exec_computed(memory, x, y, i)
 }
