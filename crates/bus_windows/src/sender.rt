@@ -5,8 +5,8 @@ use crate::tuple::pull_times;
 use crate::tuple::pushing;
 use crate::tuple::row_of;
 use bus_tuples::Sent;
-use bus_tuples::pulled_tuple;
 use bus_tuples::pushed_tuple;
+use bus_tuples::tuple_at;
 use rows::exec_row;
 ghost use mathlib.Core.List.{[]};
 ghost use Prim.Native.Nat.{_+_, _/_, _<_};
@@ -48,9 +48,8 @@ fn puller(ext: &[u8], k: usize) -> Tally
     requires { ⌜ k < length (now ext) / 120 ⌝ }
     ensures { λ x. ⌜ Reads x (pullSent (tables [] (now (ext .entry))) k) ⌝ }
 {
-    let y = row_of(ext, k);
-    let minus = pull_times(y);
-    let sent = pulled_tuple(y);
+    let minus = pull_times(row_of(ext, k));
+    let sent = tuple_at(ext, 120 * k);
     Tally {
         plus: 0,
         minus,

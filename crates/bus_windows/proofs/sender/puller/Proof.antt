@@ -1,7 +1,7 @@
 -- Each field is the row's.
 use borrow.Author.Needs.{needs}
 use mathlib.Core.Path.{ap, _∙_}
-use Rattle.rules.specs.Bus.{pulled, pulls}
+use Rattle.rules.specs.Bus.{pulls}
 use Rattle.bus_windows.proofs.sender.puller.Statement.{statement}
 use Rattle.bus_windows.proofs.sender.puller.Tie as tie
 
@@ -19,8 +19,8 @@ returns c =
       minus-is = times .0 ∙ ap pulls row;
       once = search needs;
       thrice = times .1;
-      tuple-is = λ _. c .pulled-tuple .ensures ∙ ap pulled row;
+      tuple-is = λ _. c .tuple-at .ensures;
     }
 
 pub puller-spec : {M : Type 1} → statement M
-puller-spec = tie.close (tie.spec (λ c κs. search needs) pull-times-requires (λ c κs. search needs) returns)
+puller-spec = tie.close (tie.spec (λ c κs. search needs) pull-times-requires (λ c. search needs) (λ c κs. search needs) returns)
