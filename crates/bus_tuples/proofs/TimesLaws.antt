@@ -1,16 +1,18 @@
 -- How often a row pulls: where it is once or not at all, and where its words are flags, the code's number is right.
 -- Assumes nothing.
 use mathlib.Core.Path.{_≡_, refl, sym, _∙_}
-use mathlib.Core.Bool.{Bool, true, false, _&&_}
+use mathlib.Core.Bool.{Bool, true, false, _&&_, true≢false}
 use mathlib.Core.List.{[], _∷_}
 use Prim.Native.Nat.{ℕ, _+_, _*_, _≤_}
+use native.Mathlib.Nat.{mul-le-mul-right}
 use native.Mathlib.Omega.{arith}
 use lib.Dec.{eqb, leb}
-use borrow.Author.Tests.{eqb-true, eqb-false, ne-eqb, leb-true}
+use borrow.Author.Tests.{eqb-true, eqb-false, eq-eqb, ne-eqb, leb-true, le-leb}
 use Rattle.form.proofs.Cases.{each}
 use Rattle.rows.specs.declared.Ext.{Ext}
 use Rattle.rules.specs.Bus.{pulls}
 use Rattle.bus_tuples.specs.Times.{pullBy, pullCount}
+use Rattle.bus_tuples.specs.Ready.{Flags}
 
 module _ (start add mul peq : ℕ) where
   -- what the tests say
@@ -35,7 +37,7 @@ module _ (start add mul peq : ℕ) where
   is-right = pullBy start add mul peq ≡ start * (add + mul + peq)
 
   -- by cases: it is right, or the tests fail
-  by-cases : (bits ≡ false → 2 ≡ pullBy start add mul peq → is-right) → is-right
+  by-cases : ((start ≡ 0 → ⊥) → bits ≡ false → is-right) → is-right
   by-cases other = go (eqb start 0) refl bits refl
     where
       go : (b : Bool) → eqb start 0 ≡ b → (d : Bool) → bits ≡ d → is-right
@@ -45,10 +47,26 @@ module _ (start add mul peq : ℕ) where
       go false t true e =
           let one : start ≡ 1 = all-bits e .0 in
           sym (by-bits (eqb-false start 0 t) e) ∙ rw one (omega arith)
-      go false t false e = other e (by-other (eqb-false start 0 t) e)
+      go false t false e = other (eqb-false start 0 t) e
 
-pub right-few : (x : Ext) → pullCount x ≤ 1 → pullCount x ≡ pulls x
-right-few x few = by-cases (x .start) (x .add) (x .mul) (x .peq) (λ _ two. absurd (omega arith))
+module _ (x : Ext) where
+  pub right-few : pullCount x ≤ 1 → pullCount x ≡ pulls x
+  right-few few =
+      by-cases (x .start) (x .add) (x .mul) (x .peq) (λ some e. absurd (omega (arith, by-other (x .start) (x .add) (x .mul) (x .peq) some e)))
 
-pub few-pulls : (x : Ext) {n : ℕ} → n ≡ pullCount x → n ≤ 1 → pulls x ≡ n
-few-pulls x is few = sym (is ∙ right-few x (omega arith))
+  pub few-pulls : {n : ℕ} → n ≡ pullCount x → n ≤ 1 → pulls x ≡ n
+  few-pulls is few = sym (is ∙ right-few (omega arith))
+
+  -- of a row with flags
+  module _ (f : Flags x) where
+    pub right-flags : pullCount x ≡ pulls x
+    right-flags =
+        by-cases (x .start) (x .add) (x .mul) (x .peq)
+        (λ some e.
+        let one : x .start ≡ 1 = omega (arith, f .start-bit) in
+        let all : bits (x .start) (x .add) (x .mul) (x .peq) ≡ true =
+        rw (eq-eqb (x .start) 1 one, le-leb (x .add) 1 (f .add-bit), le-leb (x .mul) 1 (f .mul-bit), le-leb (x .peq) 1 (f .peq-bit)) in
+        absurd (true≢false (sym all ∙ e)))
+
+    pub at-most-three : pulls x ≤ 3
+    at-most-three = omega (arith, f .add-bit, f .mul-bit, f .peq-bit, mul-le-mul-right (x .add + x .mul + x .peq) (f .start-bit))
