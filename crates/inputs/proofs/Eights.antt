@@ -61,5 +61,6 @@ module _ (bytes : List ℕ) where
       next {a} k tells = one-more (isWord bytes) a i (i + k) (i + suc k) (omega arith) (omega arith) tells
 
   -- eight more, from a word on that was told of or is the next
-  pub eight-more : (a : Bool) (i e k : ℕ) → i ≤ k → k ≤ e → e ≤ k + 8 → Tells (isWord bytes) a i e → Tells (isWord bytes) (a && eightWords bytes k) i (k + 8)
-  eight-more a i e k ik ke ef tells = joined (isWord bytes) a (eightWords bytes k) i e k (k + 8) ik ke ef tells (eight k)
+  pub eight-more : (a : Bool) (i e k f : ℕ) → i ≤ k → k ≤ e → e ≤ f → f ≡ k + 8 → Tells (isWord bytes) a i e
+      → Tells (isWord bytes) (a && eightWords bytes k) i f
+  eight-more a i e k f ik ke ef last tells = joined (isWord bytes) a (eightWords bytes k) i e k f ik ke ef tells (rw last (eight k))

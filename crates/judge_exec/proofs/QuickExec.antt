@@ -14,8 +14,9 @@ use Rattle.form.proofs.Cases.{each, either}
 use Rattle.rows.specs.declared.Exec.{Exec}
 use Rattle.rules.specs.Given.{zero?}
 use Rattle.rules.specs.Execution.{ADD, DEREF}
-use Rattle.judge_exec.specs.Parts.{selectedOf, lookupsThen, addressed, addressesThen, operationsThen, jumpsThen, execFails}
-use Rattle.judge_exec.proofs.SelectedLaws.{looked-up, immediate, framed}
+use Rattle.judge_exec.specs.Parts.{lookupsThen, addressed, addressesThen, operationsThen, jumpsThen, execFails}
+use Rattle.bus_tuples.proofs.SelectedLaws.{looked-up, immediate, framed}
+use Rattle.bus_tuples.specs.Selected.{selectedOf}
 use Rattle.judge_lookups.proofs.Quick.{pass, shut-rule, same-rule, same-test}
 
 -- what is no word shows nothing

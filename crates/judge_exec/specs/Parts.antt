@@ -8,10 +8,7 @@ use Rattle.rows.specs.declared.Exec.{Exec}
 use Rattle.rules.specs.Given.{zero?}
 use Rattle.rules.specs.Execution.{ADD, DEREF}
 use Rattle.judge_lookups.specs.Memory.{cellIs}
-
--- a selected value
-abbrev pub selectedOf : ℕ → ℕ → ℕ → ℕ → ℕ → ℕ
-selectedOf flag fpFlag operand value fp = flag *ₚ operand +ₚ (1 -ₚ flag -ₚ fpFlag) *ₚ value +ₚ fpFlag *ₚ (fp +ₚ operand)
+use Rattle.bus_tuples.specs.Selected.{selectedOf}
 
 -- rules 2 to 4
 abbrev pub lookupsThen : List ℕ → Exec → ℕ → ℕ

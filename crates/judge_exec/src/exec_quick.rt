@@ -10,7 +10,8 @@ ghost use mathlib.Core.Bool.{true};
 ghost use Prim.Native.Nat.{ℕ, _<_};
 ghost use Rattle.word.specs.Word.{p, _*ₚ_};
 ghost use Rattle.rules.specs.Given.{zero?};
-ghost use Rattle.judge_exec.specs.Parts.{selectedOf, lookupsThen, addressed, operationsThen, jumpsThen, execFails};
+ghost use Rattle.bus_tuples.specs.Selected.{selectedOf};
+ghost use Rattle.judge_exec.specs.Parts.{lookupsThen, addressed, operationsThen, jumpsThen, execFails};
 
 // What is no word, and so no selected value.
 const NONE: u32 = 4294967295;

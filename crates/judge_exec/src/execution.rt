@@ -1,4 +1,5 @@
 // The rules of an execution row, by the polynomials.
+use bus_tuples::selected;
 use form::Instruction;
 use inputs::first_of;
 use judge_lookups::gated;
@@ -11,7 +12,7 @@ ghost use mathlib.Core.Path.{_≡_};
 ghost use Rattle.word.specs.Word.{_-ₚ_};
 ghost use Rattle.rules.specs.Given.{zero?};
 ghost use Rattle.rules.specs.Execution.{ADD, DEREF};
-ghost use Rattle.judge_exec.specs.Parts.{selectedOf, lookupsThen, addressed, addressesThen, operationsThen, jumpsThen, execFails};
+ghost use Rattle.judge_exec.specs.Parts.{lookupsThen, addressed, addressesThen, operationsThen, jumpsThen, execFails};
 
 // 1 where an operand is a cell read, 0 where it is an immediate or fp + operand.
 fn reads_cell(flag: u32, fp_flag: u32) -> u32
@@ -23,25 +24,6 @@ fn reads_cell(flag: u32, fp_flag: u32) -> u32
         }
     }
     sub(sub(1, flag), fp_flag)
-}
-
-// An operand's selected value: immediate, looked up, or fp + operand. Only flags that are none of these take the polynomial.
-pub fn selected(flag: u32, fp_flag: u32, operand: u32, value: u32, fp: u32) -> u32
-    ensures { λ r. ⌜ r ≡ selectedOf flag «fp_flag» operand value fp ⌝ }
-{
-    if fp_flag == 0 {
-        if flag == 0 {
-            return add(value, 0);
-        }
-        if flag == 1 {
-            return add(operand, 0);
-        }
-    }
-    let cell = mul(sub(sub(1, flag), fp_flag), value);
-    add(
-        add(mul(flag, operand), cell),
-        mul(fp_flag, add(fp, operand)),
-    )
 }
 
 fn lookups(memory: &[u8], x: Exec, rest: u32) -> u32

@@ -4,7 +4,6 @@ mod execution;
 
 use exec_quick::exec_holds;
 use execution::exec_computed;
-pub use execution::selected;
 use form::instruction_inside;
 use rows::Exec;
 ghost use mathlib.Core.Path.{_≡_};

@@ -17,8 +17,8 @@ use Rattle.inputs.proofs.Walks.{Walk, begins, goes-past, finds, finds-n
 use Rattle.inputs.proofs.walk.program_walk.Statement.{statement}
 use Rattle.inputs.proofs.walk.program_walk.Tie as tie
 
-twelve : (program : List ℕ) (i : ℕ) → Tells (isWord program) (eightWords program (12 * i) && eightWords program (12 * i + 4)) (12 * i) (12 * i + 4 + 8)
-twelve program i = eight-more program _ (12 * i) (12 * i + 8) (12 * i + 4) (omega arith) (omega arith) (omega arith) (eight program (12 * i))
+twelve : (program : List ℕ) (i : ℕ) → Tells (isWord program) (eightWords program (12 * i) && eightWords program (12 * i + 4)) (12 * i) (12 * i + 12)
+twelve program i = eight-more program _ (12 * i) (12 * i + 8) (12 * i + 4) _ (omega arith) (omega arith) (omega arith) (omega arith) (eight program (12 * i))
 
 abbrev Inv-loop : tie.InvT-loop
 Inv-loop program n words₀ i₀ words i =
@@ -45,7 +45,7 @@ loop-again c =
     let well = rw (c .before .before .before .instruction-inside .ensures) at (c .before .before .well-formed .ensures) in
     let loop = c .before .before .before .before .before .loop in
     let program = c .before .before .before .before .before .before .before .args .program .now in
-    let next : 12 * (loop .i + 1) ≡ 12 * loop .i + 4 + 8 = omega arith in (
+    let next : 12 * (loop .i + 1) ≡ 12 * loop .i + 12 = omega arith in (
       refl,
       goes-past (loop .inv .1) (omega arith) (sym well ∙ not-false _ (c .before .if1 .left)),
       rw (next, words .ensures) (joined (isWord program) _ _ 0 (12 * loop .i) _ _ zero-le (omega arith) (omega arith) (loop .inv .2) (twelve program (loop .i))),
