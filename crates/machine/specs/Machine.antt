@@ -4,11 +4,6 @@ use Prim.Native.Nat.{ℕ}
 use mathlib.Core.Bool.{Bool, true}
 use lib.Dec.{ltb}
 use Rattle.word.specs.Word.{_+ₚ_}
-use Rattle.form.specs.Form.{decodeOf}
-use Rattle.form.specs.declared.Instruction.{Instruction}
-use Rattle.form.specs.declared.Decoded.{Decoded}
-use Rattle.form.specs.declared.Decoded.the-variants.{Malformed, Well}
-use Rattle.form.specs.declared.Kind.the-variants.{Jump}
 use Rattle.form.specs.declared.Form.{Form}
 use Rattle.form.specs.declared.Operand.{Operand}
 use Rattle.form.specs.declared.Mode.{Mode}
@@ -20,18 +15,6 @@ pub record Machine : Type 0 where
   pub form : ℕ → Form
   pub size : ℕ
   pub cell : ℕ → ℕ
-
--- a malformed instruction has no form, and no program with one is run; a jump stands for it here
-abbrev pub immediate : ℕ → Operand
-immediate x = record { mode = Immediate; word = x }
-
-abbrev pub formIn : Decoded → Form
-formIn (Well f) = f
-formIn Malformed = record { kind = Jump; a = immediate 0; b = immediate 0; c = immediate 0 }
-
--- the machine of numbered instructions and cells
-abbrev pub loaded : ℕ → (ℕ → Instruction) → ℕ → (ℕ → ℕ) → Machine
-loaded count instruction size cell = record { count = count; form = λ i. formIn (decodeOf (instruction i)); size = size; cell = cell }
 
 pub record State : Type 0 where
   pub pc : ℕ

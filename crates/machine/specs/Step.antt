@@ -23,9 +23,9 @@ asked rule false then = stuck rule
 abbrev pub forward : State → Outcome
 forward s = goes (record { pc = s .pc + 1; fp = s .fp })
 
--- DEREF's target: the cell at the sum of its operands A and B, which are the cell fp + α and β
+-- DEREF's target: the cell at (cell fp + α) + β
 abbrev pub target : Machine → State → Form → ℕ
-target m s f = value m s (f .a) +ₚ value m s (f .b)
+target m s f = value m s (f .a) +ₚ f .b .word
 
 abbrev pub targetLegal : Machine → State → Form → Kind → Bool
 targetLegal m s f Add = true

@@ -5,9 +5,10 @@ use Rattle.answer.specs.declared.Answer.{Answer}
 use Rattle.label.specs.declared.Recipe.{Recipe}
 use Rattle.machine.specs.Machine.{Machine, State}
 use Rattle.maker.specs.Bytes.{programOf, memoryOf}
+use Rattle.tables.specs.Machine.{machineOf}
 use Rattle.tables.specs.Rows.{stateAt}
 use Rattle.tables.specs.Bytes.{execTable, extTable}
-use Rattle.tabler_spec.specs.Tabled.{machineOf, tableOf}
+use Rattle.tabler_spec.specs.Tabled.{tableOf}
 
 -- H and K
 abbrev pub height : ℕ

@@ -12,7 +12,7 @@ use Rattle.machine.specs.Step.{step}
 use Rattle.machine.specs.Run.{StayingRun}
 use Rattle.rules.specs.Sizes.{Parts, givenOf}
 use Rattle.judge_spec.specs.Judged.{judgeOf}
-use Rattle.run_steps.specs.Setting.{machineOf}
+use Rattle.run_steps.specs.Setting.{machineIn}
 use Rattle.run_steps.proofs.Legal.{one-successor}
 use Rattle.run.proofs.Sound.{startOf, rowState, lastRow, sound}
 
@@ -33,13 +33,13 @@ module _ {m : Machine} {start : State} {k l : ℕ} {s t : ℕ → State} (one : 
 -- two accepted tables, of whatever heights and with whatever extension tables, over one program, memory and start
 module _ (q u : Parts) (program : q .program ≡ u .program) (memory : q .memory ≡ u .memory) (pc : q .pc ≡ u .pc) (fp : q .fp ≡ u .fp)
     (first : judgeOf q ≡ Accepted) (second : judgeOf u ≡ Accepted) where
-  same-machine : machineOf (givenOf q) ≡ machineOf (givenOf u)
-  same-machine = ap₂ (λ (p m : List ℕ). machineOf (givenOf (record { program = p; memory = m; exec = []; ext = []; pc = 0; fp = 0 }))) program memory
+  same-machine : machineIn (givenOf q) ≡ machineIn (givenOf u)
+  same-machine = ap₂ (λ (p m : List ℕ). machineIn (givenOf (record { program = p; memory = m; exec = []; ext = []; pc = 0; fp = 0 }))) program memory
 
   same-start : startOf q ≡ startOf u
   same-start = λ i. record { pc = pc i; fp = fp i }
 
-  one : StayingRun (machineOf (givenOf u)) (startOf u) (lastRow q) (rowState q)
+  one : StayingRun (machineIn (givenOf u)) (startOf u) (lastRow q) (rowState q)
   one = subst₂ (λ (m : Machine) (s : State). StayingRun m s (lastRow q) (rowState q)) same-machine same-start (sound q first)
 
   pub agree : (r : ℕ) → r ≤ lastRow q → r ≤ lastRow u → rowState q r ≡ rowState u r

@@ -12,13 +12,14 @@ use Rattle.judge_spec.proofs.Exactly.{satisfies-accepted}
 use Rattle.run_tables.specs.Setting.{Writable}
 use Rattle.run_tables.proofs.Runs.{own-writable}
 use Rattle.run_tables.proofs.Satisfied.{satisfies}
-use Rattle.run.specs.Runs.{Input, Permitted, LegalRun, Spare, withTables, given, start, pairOf}
+use Rattle.rules.specs.Sizes.{given}
+use Rattle.run.specs.Runs.{Input, Permitted, LegalRun, Spare, withTables, startOf, pairOf}
 use Rattle.run.proofs.Lengths.{whole}
 use Rattle.run.proofs.Words.{fit-of}
 
 module _ (i : Input) (permitted : Permitted i) (height extHeight : ℕ) (state : ℕ → State) (legal : LegalRun i height state)
     (spare : Spare i height extHeight state) where
-  cells : 256 ≤ given i .size
+  cells : 256 ≤ given (i .program) (i .memory) .size
   cells = whole (length (i .memory)) 4 21 (permitted .memory-size) .number .least
 
   rows : 1 ≤ height
@@ -26,7 +27,7 @@ module _ (i : Input) (permitted : Permitted i) (height extHeight : ℕ) (state :
       let h = whole (32 * height) 32 17 (legal .permitted) .number .least in
       omega arith
 
-  writable : Writable (given i) (start i) height extHeight state
+  writable : Writable (given (i .program) (i .memory)) (startOf i) height extHeight state
   writable =
       record {
         fit =

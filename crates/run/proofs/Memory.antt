@@ -16,7 +16,7 @@ use Rattle.machine.specs.Machine.{value}
 use Rattle.tables.specs.Rows.{formAt}
 use Rattle.rules.specs.Given.{Given, Tables}
 use Rattle.rules.specs.Bus.{Tuple, sameTuple, pushed, pushes, pulled, pulls, total, pushedTo, pulledTo, instructionOf}
-use Rattle.run_steps.specs.Setting.{machineOf, stateOf, ExtensionHolds, MemoryHolds, OneCall, PushesBy, Pushes}
+use Rattle.run_steps.specs.Setting.{machineIn, stateOf, ExtensionHolds, MemoryHolds, OneCall, PushesBy, Pushes}
 use Rattle.run_groups.proofs.Lengths.{ExtTable}
 use Rattle.run_groups.proofs.Legal.{Legal}
 use Rattle.run_groups.proofs.Pulled.{pulled-legal}
@@ -78,8 +78,8 @@ module _ (g : Given) (t : Tables) (table : ExtTable g (t .extHeight) (t .ext))
       let term = at-least (λ k. cond (sameTuple (pushed (instructionOf g t k) (t .exec k)) σ) (pushes (instructionOf g t k)) 0) (t .height) r below in
       omega (arith, bus σ, once, rw (same-itself σ) at term)
 
-  pulled-by : (op : Op) (be : Bool) (n : ℕ) (f : Form) → OneCall (machineOf g) f (instructionOf g t r) (t .exec r) op be n
-      → (let m = machineOf g in let s = stateOf (t .exec r) in Legal g op be n (value m s (f .a)) (value m s (f .b)) (value m s (f .c)))
+  pulled-by : (op : Op) (be : Bool) (n : ℕ) (f : Form) → OneCall (machineIn g) f (instructionOf g t r) (t .exec r) op be n
+      → (let m = machineIn g in let s = stateOf (t .exec r) in Legal g op be n (value m s (f .a)) (value m s (f .b)) (value m s (f .c)))
   pulled-by op be n f c =
       let σ = pushed (instructionOf g t r) (t .exec r) in
       let k = some-term (λ j. cond (sameTuple (pulled (t .ext j)) σ) (pulls (t .ext j)) 0) (t .extHeight) (pushed-once (c .once)) in
@@ -88,15 +88,15 @@ module _ (g : Given) (t : Tables) (table : ExtTable g (t .extHeight) (t .ext))
       moved g op be n (p .left ∙ ap (λ (τ : Tuple). τ .left) e) (p .right ∙ ap (λ (τ : Tuple). τ .right) e) (p .out ∙ ap (λ (τ : Tuple). τ .out) e)
       (pulled-legal table op be n (k .at) (k .below) (p .aux ∙ ap (λ (τ : Tuple). τ .aux) e) (p .counts))
 
-  holds-by : (f : Form) (kind : Kind) → PushesBy (machineOf g) f (instructionOf g t r) (t .exec r) kind
-      → (let m = machineOf g in let s = stateOf (t .exec r) in ExtensionHolds m kind (value m s (f .a)) (value m s (f .b)) (value m s (f .c)))
+  holds-by : (f : Form) (kind : Kind) → PushesBy (machineIn g) f (instructionOf g t r) (t .exec r) kind
+      → (let m = machineIn g in let s = stateOf (t .exec r) in ExtensionHolds m kind (value m s (f .a)) (value m s (f .b)) (value m s (f .c)))
   holds-by f Add c = tt
   holds-by f Mul c = tt
   holds-by f Deref c = tt
   holds-by f Jump c = tt
   holds-by f (Extension op be n) c = let l = pulled-by op be n f c in (l .exist, l .same)
 
-  pub memory-holds : Pushes g (t .exec r) → MemoryHolds (machineOf g) (stateOf (t .exec r))
+  pub memory-holds : Pushes g (t .exec r) → MemoryHolds (machineIn g) (stateOf (t .exec r))
   memory-holds c =
-      let f = formAt (machineOf g) (stateOf (t .exec r)) in
+      let f = formAt (machineIn g) (stateOf (t .exec r)) in
       holds-by f (f .kind) c

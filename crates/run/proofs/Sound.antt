@@ -14,7 +14,7 @@ use Rattle.rules.specs.Sizes.{Parts, givenOf, tablesOf}
 use Rattle.rules.specs.Satisfies.{Satisfies}
 use Rattle.judge_spec.specs.Judged.{judgeOf}
 use Rattle.judge_spec.proofs.Exactly.{accepted-satisfies}
-use Rattle.run_steps.specs.Setting.{machineOf, stateOf, ExecWords}
+use Rattle.run_steps.specs.Setting.{machineIn, stateOf, ExecWords}
 use Rattle.run_steps.proofs.Legal.{same-state}
 use Rattle.run_steps.proofs.Sound.{row-steps, row-pushes}
 use Rattle.run_groups.proofs.Pairs.{next-inner, next-last}
@@ -36,7 +36,7 @@ module _ (q : Parts) (s : Satisfies q) where
   words = exec-words (q .exec) (s .exec-words)
 
   steps-to : (r n : ℕ) → r < tablesOf q .height → n < tablesOf q .height → next (tablesOf q .height) r ≡ n
-      → step (machineOf (givenOf q)) (rowState q r) ≡ goes (rowState q n)
+      → step (machineIn (givenOf q)) (rowState q r) ≡ goes (rowState q n)
   steps-to r n hr hn e =
       let t = tablesOf q in
       let rules = rw e at (s .constraints .execution r hr) in
@@ -45,7 +45,7 @@ module _ (q : Parts) (s : Satisfies q) where
       (memory-holds (givenOf q) t (ext-table q s) (s .constraints .bus) r hr pushes)
 
   -- tables that satisfy the constraints are a run that stays
-  pub satisfied-run : StayingRun (machineOf (givenOf q)) (startOf q) (lastRow q) (rowState q)
+  pub satisfied-run : StayingRun (machineIn (givenOf q)) (startOf q) (lastRow q) (rowState q)
   satisfied-run =
       let some = some-rows q s in
       record {
@@ -55,5 +55,5 @@ module _ (q : Parts) (s : Satisfies q) where
       }
 
 -- an accepted table is one run
-pub sound : (q : Parts) → judgeOf q ≡ Accepted → StayingRun (machineOf (givenOf q)) (startOf q) (lastRow q) (rowState q)
+pub sound : (q : Parts) → judgeOf q ≡ Accepted → StayingRun (machineIn (givenOf q)) (startOf q) (lastRow q) (rowState q)
 sound q e = satisfied-run q (accepted-satisfies q e)

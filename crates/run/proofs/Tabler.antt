@@ -14,12 +14,12 @@ use Rattle.form.specs.Form.{wellFormed}
 use Rattle.answer.specs.declared.Answer.{Answer}
 use Rattle.answer.specs.declared.Answer.the-variants.{Accepted, Size, Word, Instruction, Start}
 use Rattle.machine.specs.Machine.{State}
-use Rattle.rules.specs.Sizes.{programFits, memoryFits, execFits, extFits, wordOf}
+use Rattle.rules.specs.Sizes.{programFits, memoryFits, execFits, extFits, wordOf, given}
 use Rattle.rules.specs.Satisfies.{Words}
 use Rattle.judge_spec.specs.First.{first}
 use Rattle.judge_spec.proofs.FirstLaws.{first-none, first-past}
 use Rattle.tables.specs.Rows.{stateAt}
-use Rattle.run.specs.Runs.{Input, Permitted, LegalRun, Spare, machine, start, given}
+use Rattle.run.specs.Runs.{Input, Permitted, LegalRun, Spare, machine, startOf}
 use Rattle.run.proofs.Lengths.{whole}
 use Rattle.judge_spec.specs.Judged.{firstWord, firstMalformed}
 use Rattle.tabler_spec.specs.Tabled.{tableOf, running}
@@ -63,7 +63,8 @@ accepts i permitted height extHeight state legal spare =
     let least : suc (height - 1) ≡ height = omega arith in
     let heights : 32 * height / 32 ≡ height = omega arith in
     let extHeights : 120 * extHeight / 120 ≡ extHeight = omega arith in
-    let malformed = first-none (λ j. wellFormed (given i .instruction j)) (given i .count) .1 (λ k h. is-true _ (permitted .instructions k h)) in
+    let g = given (i .program) (i .memory) in
+    let malformed = first-none (λ j. wellFormed (g .instruction j)) (g .count) .1 (λ k h. is-true _ (permitted .instructions k h)) in
     rw (
       is-true (programFits (length (i .program))) (permitted .program-size),
       is-true (memoryFits (length (i .memory))) (permitted .memory-size),
@@ -71,7 +72,7 @@ accepts i permitted height extHeight state legal spare =
       is-true (extFits (120 * extHeight)) (spare .permitted),
       no-first (i .program) (permitted .program-words),
       no-first (i .memory) (permitted .memory-words),
-      le-ltb (firstMalformed (given i)) (length (i .program) / 48) (omega (arith, malformed)),
+      le-ltb (firstMalformed g) (length (i .program) / 48) (omega (arith, malformed)),
       lt-ltb (i .pc) p (permitted .pc-word),
       lt-ltb (i .fp) p (permitted .fp-word),
       heights,
@@ -82,8 +83,8 @@ accepts i permitted height extHeight state legal spare =
 -- an accepted run, and what it was made from
 pub record AcceptedRun (i : Input) (height extHeight : ℕ) : Type 0 where
   pub permitted : Permitted i
-  pub legal : LegalRun i height (stateAt (machine i) (start i))
-  pub spare : Spare i height extHeight (stateAt (machine i) (start i))
+  pub legal : LegalRun i height (stateAt (machine i) (startOf i))
+  pub spare : Spare i height extHeight (stateAt (machine i) (startOf i))
 
 not-size : (part place : ℕ) → Size part place ≡ Accepted → ⊥
 not-size part place e = let z : _≡_ {A = ℕ} 0 1 = cc e in omega arith
@@ -100,16 +101,17 @@ not-start e = let z : _≡_ {A = ℕ} 0 1 = cc e in omega arith
 pub accepted-only : (i : Input) (height extHeight : ℕ) → answerFor i height extHeight ≡ Accepted → AcceptedRun i height extHeight
 unfolding tableOf
 accepted-only i height extHeight e =
+    let g = given (i .program) (i .memory) in
     let s1 = passed (programFits (length (i .program))) _ (Size 1 0) (not-size 1 0) e in
     let s2 = passed (memoryFits (length (i .memory))) _ (Size 2 0) (not-size 2 0) (s1 .1) in
     let s3 = passed (execFits (32 * height)) _ (Size 3 0) (not-size 3 0) (s2 .1) in
     let s4 = passed (extFits (120 * extHeight)) _ (Size 4 0) (not-size 4 0) (s3 .1) in
     let w1 = skipped (ltb (firstWord (i .program)) (length (i .program) / 4)) _ _ (not-word 1 _) (s4 .1) in
     let w2 = skipped (ltb (firstWord (i .memory)) (length (i .memory) / 4)) _ _ (not-word 2 _) (w1 .1) in
-    let k = skipped (ltb (firstMalformed (given i)) (length (i .program) / 48)) _ _ (not-instruction _) (w2 .1) in
+    let k = skipped (ltb (firstMalformed g) (length (i .program) / 48)) _ _ (not-instruction _) (w2 .1) in
     let b = passed (ltb (i .pc) p && ltb (i .fp) p) _ Start not-start (k .1) in
     let starts = both (ltb (i .pc) p) (ltb (i .fp) p) (b .0) in
-    let run = accepted-runs (machine i) _ _ (start i) 0 0 (b .1) in
+    let run = accepted-runs (machine i) _ _ (startOf i) 0 0 (b .1) in
     let rows = whole (32 * height) 32 17 (holds _ (s3 .0)) .number .least in
     let heights : 32 * height / 32 ≡ height = omega arith in
     let least : suc (32 * height / 32 - 1) ≡ height = omega arith in
@@ -121,7 +123,7 @@ accepted-only i height extHeight e =
             memory-size = holds _ (s2 .0);
             program-words = all-words (i .program) (w1 .0);
             memory-words = all-words (i .memory) (w2 .0);
-            instructions = λ j h. holds _ (first-past (λ n. wellFormed (given i .instruction n)) (given i .count) (ltb-false _ _ (k .0)) j h);
+            instructions = λ j h. holds _ (first-past (λ n. wellFormed (g .instruction n)) (g .count) (ltb-false _ _ (k .0)) j h);
             pc-word = ltb-true (i .pc) p (starts .0);
             fp-word = ltb-true (i .fp) p (starts .1);
           };

@@ -10,7 +10,7 @@ use Rattle.rows.specs.declared.Exec.{Exec}
 use Rattle.rules.specs.Given.{Given}
 use Rattle.machine.specs.Machine.{Machine, State, value}
 use Rattle.machine.specs.Step.{target}
-use Rattle.run_steps.specs.Setting.{machineOf, stateOf}
+use Rattle.run_steps.specs.Setting.{machineIn, stateOf}
 use Rattle.run_steps.proofs.Legal.{Does}
 use Rattle.run_steps.proofs.Operands.{Columns}
 
@@ -30,12 +30,12 @@ pub record Operands (g : Given) (x : Exec) (f : Form) : Type 0 where
 
 abbrev pub DoesRow : Given → Exec → Exec → Form → Kind → Type 0
 DoesRow g x y f k =
-    let m = machineOf g in
+    let m = machineIn g in
     let s = stateOf x in
     Does m s (stateOf y) f k (value m s (f .a)) (value m s (f .b)) (value m s (f .c))
 
 pub record Meaning (g : Given) (x y : Exec) (f : Form) : Type 0 where
   pub pc-in : x .pc < g .count
   pub operands : Operands g x f
-  pub points : Points (machineOf g) (stateOf x) f (x .addrB) (f .kind)
+  pub points : Points (machineIn g) (stateOf x) f (x .addrB) (f .kind)
   pub does : DoesRow g x y f (f .kind)

@@ -11,9 +11,9 @@ use Rattle.form.specs.declared.Operand.{Operand}
 use Rattle.form.specs.declared.Mode.{Mode}
 use Rattle.form.specs.declared.Mode.the-variants.{Immediate, Cell, Frame}
 use Rattle.rules.specs.Given.{Given, zero?, looksUp}
-use Rattle.machine.specs.Machine.{Machine, State, address, value, legal}
+use Rattle.machine.specs.Machine.{State, address, value, legal}
 use Rattle.tables.specs.Rows.{column}
-use Rattle.run_steps.specs.Setting.{machineOf, Fit}
+use Rattle.run_steps.specs.Setting.{machineIn, Fit}
 use Rattle.word.proofs.Tests.{both, and, eq→eqb}
 use Rattle.run_steps.proofs.Rules.{OperandRules}
 use Rattle.run_steps.proofs.Words.{says-equal, holds-off, holds-equal}
@@ -82,10 +82,10 @@ module _ (g : Given) (s : State) (word addr val flag frame : ℕ) (fit : flag + 
 
   -- the selected value is the operand's
   pub selects : IsWord word → IsWord val → Columns g s (operandOf flag frame word) addr val
-      → selection flag frame word val (s .fp) ≡ value (machineOf g) s (operandOf flag frame word)
+      → selection flag frame word val (s .fp) ≡ value (machineIn g) s (operandOf flag frame word)
   unfolding _+ₚ_ _-ₚ_ _*ₚ_
   selects w v k =
-      by-flags (λ (x y : ℕ). At s (operandOf x y word) addr → selection x y word val (s .fp) ≡ value (machineOf g) s (operandOf x y word))
+      by-flags (λ (x y : ℕ). At s (operandOf x y word) addr → selection x y word val (s .fp) ≡ value (machineIn g) s (operandOf x y word))
       (λ t. omega arith) (λ t. omega arith)
       (λ e.
       let same : selection 0 0 word val (s .fp) ≡ val = omega arith in
@@ -94,39 +94,36 @@ module _ (g : Given) (s : State) (word addr val flag frame : ℕ) (fit : flag + 
 
 module _ (g : Given) (s : State) (word : ℕ) where
   legal-by : (mode : Mode) (addr : ℕ) → addr < g .size → AtBy s (record { mode = mode; word = word }) addr mode
-      → T (legal (machineOf g) s (record { mode = mode; word = word }))
+      → T (legal (machineIn g) s (record { mode = mode; word = word }))
   legal-by Immediate addr h e = tt
   legal-by Cell addr h e = lt→ltb _ _ (rw e at h)
   legal-by Frame addr h e = tt
 
-  tabled-by : (mode : Mode) → 0 < g .size → T (legal (machineOf g) s (record { mode = mode; word = word }))
+  tabled-by : (mode : Mode) → 0 < g .size → T (legal (machineIn g) s (record { mode = mode; word = word }))
       → Columns g s (record { mode = mode; word = word }) (column s (record { mode = mode; word = word })) (g .cell (column s (record { mode = mode; word = word })))
   tabled-by Immediate some t = record { looked = record { exists = some; holds = refl }; at = tt }
   tabled-by Cell some t = record { looked = record { exists = ltb→lt _ _ t; holds = refl }; at = refl }
   tabled-by Frame some t = record { looked = record { exists = some; holds = refl }; at = tt }
 
 -- an operand whose columns are right is legal
-pub legal-operand : (g : Given) (s : State) (o : Operand) {addr val : ℕ} → Columns g s o addr val → T (legal (machineOf g) s o)
+pub legal-operand : (g : Given) (s : State) (o : Operand) {addr val : ℕ} → Columns g s o addr val → T (legal (machineIn g) s o)
 legal-operand g s o k = legal-by g s (o .word) (o .mode) _ (k .looked .exists) (k .at)
 
 -- and the tabler's columns of a legal operand are right
-pub tabled-operand : (g : Given) (s : State) (o : Operand) → 0 < g .size → T (legal (machineOf g) s o) → Columns g s o (column s o) (g .cell (column s o))
+pub tabled-operand : (g : Given) (s : State) (o : Operand) → 0 < g .size → T (legal (machineIn g) s o) → Columns g s o (column s o) (g .cell (column s o))
 tabled-operand g s o some t = tabled-by g s (o .word) (o .mode) some t
 
--- a cell read's value column is its value, and an immediate's value is its word
+-- a cell read's value column is its value
 pub cell-value : (g : Given) (s : State) (word addr val : ℕ) {flag frame : ℕ} → flag ≡ 0 → frame ≡ 0 → Columns g s (operandOf flag frame word) addr val
-    → value (machineOf g) s (operandOf flag frame word) ≡ val
+    → value (machineIn g) s (operandOf flag frame word) ≡ val
 cell-value g s word addr val z z′ = rw (z, z′) (λ k. ap (g .cell) (sym (k .at)) ∙ sym (k .looked .holds))
 
-pub immediate-value : (m : Machine) (s : State) (word frame : ℕ) {flag : ℕ} → flag ≡ 1 → value m s (operandOf flag frame word) ≡ word
-immediate-value m s word frame one = rw one
-
-value-word-by : (g : Given) (s : State) (word : ℕ) (mode : Mode) → Fit g → IsWord word → T (legal (machineOf g) s (record { mode = mode; word = word }))
-    → IsWord (value (machineOf g) s (record { mode = mode; word = word }))
+value-word-by : (g : Given) (s : State) (word : ℕ) (mode : Mode) → Fit g → IsWord word → T (legal (machineIn g) s (record { mode = mode; word = word }))
+    → IsWord (value (machineIn g) s (record { mode = mode; word = word }))
 value-word-by g s word Immediate fit w t = w
 value-word-by g s word Cell fit w t = fit .cells _ (ltb→lt _ _ t)
 value-word-by g s word Frame fit w t = sum-word _ _
 
 -- a legal operand's value is a word
-pub value-word : (g : Given) (s : State) (o : Operand) → Fit g → IsWord (o .word) → T (legal (machineOf g) s o) → IsWord (value (machineOf g) s o)
+pub value-word : (g : Given) (s : State) (o : Operand) → Fit g → IsWord (o .word) → T (legal (machineIn g) s o) → IsWord (value (machineIn g) s o)
 value-word g s o fit w t = value-word-by g s (o .word) (o .mode) fit w t

@@ -9,10 +9,10 @@ use Rattle.form.proofs.Forms.{Words}
 use Rattle.form.proofs.DataLaws.{reads}
 use Rattle.rows.specs.declared.Exec.{Exec}
 use Rattle.rules.specs.Given.{Given}
-use Rattle.run_steps.specs.Setting.{machineOf, Selected, PushesBy}
+use Rattle.run_steps.specs.Setting.{machineIn, Selected, PushesBy}
 use Rattle.run_steps.proofs.Codes.{codes}
 
-pub pushes-by : (g : Given) (x : Exec) (i : Instruction) (f : Form) → Selected g x i f → (k : Kind) → Words i k → PushesBy (machineOf g) f i x k
+pub pushes-by : (g : Given) (x : Exec) (i : Instruction) (f : Form) → Selected g x i f → (k : Kind) → Words i k → PushesBy (machineIn g) f i x k
 pushes-by g x i f e Add ws = codes i Add ws .precompile-is
 pushes-by g x i f e Mul ws = codes i Mul ws .precompile-is
 pushes-by g x i f e Deref ws = codes i Deref ws .precompile-is

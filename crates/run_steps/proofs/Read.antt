@@ -9,17 +9,18 @@ use Rattle.word.specs.Word.{p, IsWord, _+ₚ_}
 use Rattle.word.proofs.WordLaws.{sum-word, product-word}
 use Rattle.form.specs.declared.Instruction.{Instruction}
 use Rattle.form.specs.declared.Form.{Form}
+use Rattle.form.specs.declared.Operand.{Operand}
 use Rattle.form.specs.declared.Kind.{Kind}
 use Rattle.form.specs.declared.Kind.the-variants.{Add, Mul, Deref, Jump, Extension}
 use Rattle.form.proofs.Forms.{Formed, Words}
 use Rattle.rows.specs.declared.Exec.{Exec}
 use Rattle.rules.specs.Given.{Given}
 use Rattle.machine.specs.Step.{target}
-use Rattle.run_steps.specs.Setting.{machineOf, stateOf, OperandWords, ExecWords, Selected}
+use Rattle.run_steps.specs.Setting.{machineIn, stateOf, OperandWords, ExecWords, Selected}
 use Rattle.run_steps.proofs.Legal.{Forward, Does}
 use Rattle.run_steps.proofs.Rules.{ValueRules, RowRules}
 use Rattle.run_steps.proofs.Words.{says-equal, off-times, on-times}
-use Rattle.run_steps.proofs.Operands.{columns, selects, cell-value, immediate-value}
+use Rattle.run_steps.proofs.Operands.{columns, selects, cell-value}
 use Rattle.run_steps.proofs.Next.{read-forward, read-jump}
 use Rattle.run_steps.proofs.Codes.{codes}
 use Rattle.run_steps.proofs.Meaning.{Points, Operands, Meaning}
@@ -43,12 +44,12 @@ module _ (g : Given) (x : Exec) (i : Instruction) (f : Form) (formed : Formed i 
         c = rw (formed .c-is) (selects g (stateOf x) _ (x .addrC) _ _ _ (formed .flags .c) (o .c) (w .valueC) (rw (formed .c-is) at (k .c)));
       }
 
-  -- DEREF reads A's cell, and its B is an immediate
-  pub deref-target : Operands g x f → Words i Deref → target (machineOf g) (stateOf x) f ≡ x .valueA +ₚ i .b
+  -- DEREF reads A's cell
+  pub deref-target : Operands g x f → Words i Deref → target (machineIn g) (stateOf x) f ≡ x .valueA +ₚ i .b
   deref-target k (o, plain, fa, fb) =
       ap₂ _+ₚ_
       (rw (formed .a-is) (cell-value g (stateOf x) (i .a) (x .addrA) (x .valueA) fa (plain .fpab-is) (rw (formed .a-is) at (k .a))))
-      (rw (formed .b-is) (immediate-value (machineOf g) (stateOf x) (i .b) (i .fpab) fb))
+      (ap (λ (o : Operand). o .word) (formed .b-is))
 
   module _ (y : Exec) (w : ExecWords x) (v : ExecWords y) where
     -- rules 8 to 16, by kind
@@ -56,18 +57,18 @@ module _ (g : Given) (x : Exec) (i : Instruction) (f : Form) (formed : Formed i 
       on : i .jump ≡ 0 → Forward (stateOf x) (stateOf y)
       on z = read-forward _ _ a b c _ (off-times a z) room (w .fp) (v .pc) (v .fp) (r .next)
 
-      points-at : Words i Deref → x .addrB ≡ target (machineOf g) (stateOf x) f
+      points-at : Words i Deref → x .addrB ≡ target (machineIn g) (stateOf x) f
       points-at ws =
           says-equal (codes i Deref ws .deref-is) (w .addrB) (sum-word _ _) (r .kind .points) ∙ sym (deref-target o ws)
 
-      read-points : (k : Kind) → Words i k → Points (machineOf g) (stateOf x) f (x .addrB) k
+      read-points : (k : Kind) → Words i k → Points (machineIn g) (stateOf x) f (x .addrB) k
       read-points Add ws = tt
       read-points Mul ws = tt
       read-points Deref ws = points-at ws
       read-points Jump ws = tt
       read-points (Extension op be n) ws = tt
 
-      read-does : (k : Kind) → Words i k → Does (machineOf g) (stateOf x) (stateOf y) f k a b c
+      read-does : (k : Kind) → Words i k → Does (machineIn g) (stateOf x) (stateOf y) f k a b c
       read-does Add ws =
           let d = codes i Add ws in
           (sym (says-equal (d .add-is) wb (sum-word _ _) (r .kind .sums)), on (d .jump-is))

@@ -15,7 +15,7 @@ use Rattle.rules.specs.Satisfies.{All}
 use Rattle.machine.specs.Machine.{Machine, State, value}
 use Rattle.machine.specs.Step.{goes, step}
 use Rattle.tables.specs.Rows.{formAt}
-use Rattle.run_steps.specs.Setting.{machineOf, stateOf, Fit, ExecWords, Selected, LegalOperands, ExtensionHolds, MemoryHolds, Pushes}
+use Rattle.run_steps.specs.Setting.{machineIn, stateOf, Fit, ExecWords, Selected, LegalOperands, ExtensionHolds, MemoryHolds, Pushes}
 use Rattle.word.proofs.Tests.{is-true}
 use Rattle.run_steps.proofs.Legal.{Does, goes-if}
 use Rattle.run_steps.proofs.Rules.{sorted}
@@ -25,7 +25,7 @@ use Rattle.run_steps.proofs.Read.{read, selected}
 use Rattle.run_steps.proofs.Pushed.{pushes-by}
 
 -- the instruction at a pc of the program has the machine's form
-pub formed : (g : Given) → Fit g → (pc : ℕ) → pc < g .count → Formed (g .instruction pc) (machineOf g .form pc)
+pub formed : (g : Given) → Fit g → (pc : ℕ) → pc < g .count → Formed (g .instruction pc) (machineIn g .form pc)
 formed g fit pc h =
     let i = g .instruction pc in
     let (f, e) = well i (is-true _ (fit .well-formed pc h)) in
@@ -36,15 +36,15 @@ module _ (g : Given) (fit : Fit g) (x y : Exec) (w : ExecWords x) (v : ExecWords
   pc-in = ltb→lt _ _ (sorted g x y _ rules .in-program)
 
   -- what the rules say, with no polynomial
-  pub row-means : Meaning g x y (formAt (machineOf g) (stateOf x))
+  pub row-means : Meaning g x y (formAt (machineIn g) (stateOf x))
   row-means = read g x _ _ (formed g fit (x .pc) pc-in) y w v (fit .few) (fit .operands (x .pc) pc-in) (sorted g x y _ rules)
 
   -- the selected values are the operands' values
-  pub row-selects : Selected g x (g .instruction (x .pc)) (formAt (machineOf g) (stateOf x))
+  pub row-selects : Selected g x (g .instruction (x .pc)) (formAt (machineIn g) (stateOf x))
   row-selects = selected g x _ _ (formed g fit (x .pc) pc-in) w (fit .operands (x .pc) pc-in) (row-means .operands)
 
   -- and the operands are legal
-  pub row-legal : LegalOperands (machineOf g) (stateOf x)
+  pub row-legal : LegalOperands (machineIn g) (stateOf x)
   row-legal =
       let o = row-means .operands in
       record {
@@ -54,12 +54,12 @@ module _ (g : Given) (fit : Fit g) (x y : Exec) (w : ExecWords x) (v : ExecWords
       }
 
   -- a row steps to its pair; of an extension the memory has to hold what it asks
-  pub row-steps : MemoryHolds (machineOf g) (stateOf x) → step (machineOf g) (stateOf x) ≡ goes (stateOf y)
+  pub row-steps : MemoryHolds (machineIn g) (stateOf x) → step (machineIn g) (stateOf x) ≡ goes (stateOf y)
   row-steps memory = goes-if (record { pc-in = pc-in; legal = row-legal; does = row-means .does; memory = memory })
 
   -- a row pushes one call if it is an extension's, and nothing if not
   pub row-pushes : Pushes g x
-  row-pushes = pushes-by g x _ _ row-selects (formAt (machineOf g) (stateOf x) .kind) (formed g fit (x .pc) pc-in .words)
+  row-pushes = pushes-by g x _ _ row-selects (formAt (machineIn g) (stateOf x) .kind) (formed g fit (x .pc) pc-in .words)
 
 -- no extension stays where it is, so one that does asks nothing
 staying-memory : (m : Machine) (s : State) (f : Form) (a b c : ℕ) (k : Kind) → Does m s s f k a b c → ExtensionHolds m k a b c
@@ -71,9 +71,9 @@ staying-memory m s f a b c (Extension op be n) d = absurd (omega arith)
 
 -- the last row is paired with itself, so its step stays
 pub last-stays : (g : Given) (fit : Fit g) (x : Exec) (w : ExecWords x) (rules : All (execRules g x x (g .instruction (x .pc))))
-    → step (machineOf g) (stateOf x) ≡ goes (stateOf x)
+    → step (machineIn g) (stateOf x) ≡ goes (stateOf x)
 last-stays g fit x w rules =
-    let m = machineOf g in
+    let m = machineIn g in
     let s = stateOf x in
     let f = formAt m s in
     row-steps g fit x x w w rules

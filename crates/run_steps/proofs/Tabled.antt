@@ -19,7 +19,7 @@ use Rattle.rules.specs.Satisfies.{All}
 use Rattle.machine.specs.Machine.{Machine, State, legal}
 use Rattle.machine.specs.Step.{goes, step}
 use Rattle.tables.specs.Rows.{formAt, columnB, execRowOf}
-use Rattle.run_steps.specs.Setting.{machineOf, stateOf, Fit, ExecWords, MemoryHolds, Pushes}
+use Rattle.run_steps.specs.Setting.{machineIn, stateOf, Fit, ExecWords, MemoryHolds, Pushes}
 use Rattle.run_steps.proofs.Legal.{Forward, Does, LegalStep, goes-only-if}
 use Rattle.run_steps.proofs.Rules.{numbered}
 use Rattle.run_steps.proofs.Operands.{Columns, tabled-operand, value-word}
@@ -35,8 +35,8 @@ unfolding execRowOf
 row-state m s = refl
 
 -- DEREF's B is an immediate, so its column may lie at the target
-module _ (g : Given) (s t : State) (i : Instruction) (f : Form) (formed : Formed i f) (some : 0 < g .size) (fits : T (legal (machineOf g) s (f .b))) (a b c : ℕ) where
-  column-b : (k : Kind) → Words i k → Does (machineOf g) s t f k a b c → Columns g s (f .b) (columnB (machineOf g) s f k) (g .cell (columnB (machineOf g) s f k))
+module _ (g : Given) (s t : State) (i : Instruction) (f : Form) (formed : Formed i f) (some : 0 < g .size) (fits : T (legal (machineIn g) s (f .b))) (a b c : ℕ) where
+  column-b : (k : Kind) → Words i k → Does (machineIn g) s t f k a b c → Columns g s (f .b) (columnB (machineIn g) s f k) (g .cell (columnB (machineIn g) s f k))
   column-b Add ws d = tabled-operand g s (f .b) some fits
   column-b Mul ws d = tabled-operand g s (f .b) some fits
   column-b Deref (o, plain, fa, fb) (h, e, w) = record { looked = record { exists = h; holds = refl }; at = rw (formed .b-is, fb) tt }
@@ -55,7 +55,7 @@ module _ (g : Given) (few : g .count ≤ 2 ^ 20) (s t : State) (f : Form) (w : I
   on : Forward s t → IsWord (t .pc) × IsWord (t .fp)
   on d = (omega arith, omega arith)
 
-  lands-on-words : IsWord b → IsWord c → (k : Kind) → Does (machineOf g) s t f k a b c → IsWord (t .pc) × IsWord (t .fp)
+  lands-on-words : IsWord b → IsWord c → (k : Kind) → Does (machineIn g) s t f k a b c → IsWord (t .pc) × IsWord (t .fp)
   lands-on-words wb wc Add (e, d) = on d
   lands-on-words wb wc Mul (e, d) = on d
   lands-on-words wb wc Deref (h, e, d) = on d
@@ -63,17 +63,17 @@ module _ (g : Given) (few : g .count ≤ 2 ^ 20) (s t : State) (f : Form) (w : I
   lands-on-words wb wc Jump (inr (o, d)) = (omega arith, omega arith)
   lands-on-words wb wc (Extension op be n) d = on d
 
-module _ (g : Given) (fit : Fit g) (s t : State) (w : IsWord (s .fp)) (e : step (machineOf g) s ≡ goes t) where
-  step-legal : LegalStep (machineOf g) s t
+module _ (g : Given) (fit : Fit g) (s t : State) (w : IsWord (s .fp)) (e : step (machineIn g) s ≡ goes t) where
+  step-legal : LegalStep (machineIn g) s t
   step-legal = goes-only-if e
 
-  its-form : Formed (g .instruction (s .pc)) (formAt (machineOf g) s)
+  its-form : Formed (g .instruction (s .pc)) (formAt (machineIn g) s)
   its-form = formed g fit (s .pc) (step-legal .pc-in)
 
-  tabled-operands : Operands g (execRowOf (machineOf g) s) (formAt (machineOf g) s)
+  tabled-operands : Operands g (execRowOf (machineIn g) s) (formAt (machineIn g) s)
   unfolding execRowOf
   tabled-operands =
-      let f = formAt (machineOf g) s in
+      let f = formAt (machineIn g) s in
       record {
         a = tabled-operand g s (f .a) (fit .some) (step-legal .legal .a);
         b = column-b g s t _ f its-form (fit .some) (step-legal .legal .b) _ _ _ (f .kind) (its-form .words) (step-legal .does);
@@ -81,7 +81,7 @@ module _ (g : Given) (fit : Fit g) (s t : State) (w : IsWord (s .fp)) (e : step 
       }
 
   -- every column of the tabler's row is a word
-  pub tabled-words : ExecWords (execRowOf (machineOf g) s)
+  pub tabled-words : ExecWords (execRowOf (machineIn g) s)
   unfolding execRowOf
   tabled-words =
       let o = tabled-operands in
@@ -98,10 +98,10 @@ module _ (g : Given) (fit : Fit g) (s t : State) (w : IsWord (s .fp)) (e : step 
 
   -- and its rules hold beside a row of the next state
   pub tabled-rules : (y : Exec) → stateOf y ≡ t
-      → (let x = execRowOf (machineOf g) s in All (execRules g x y (g .instruction (x .pc))))
+      → (let x = execRowOf (machineIn g) s in All (execRules g x y (g .instruction (x .pc))))
   unfolding execRowOf
   tabled-rules y same =
-      let m = machineOf g in
+      let m = machineIn g in
       let f = formAt m s in
       numbered g (execRowOf m s) y _
       (written g (execRowOf m s) y _ f its-form (fit .few) tabled-words (fit .operands (s .pc) (step-legal .pc-in))
@@ -113,23 +113,23 @@ module _ (g : Given) (fit : Fit g) (s t : State) (w : IsWord (s .fp)) (e : step 
       }))
 
   -- it pushes one call if the step is an extension's, and nothing if not
-  pub tabled-pushes : Pushes g (execRowOf (machineOf g) s)
+  pub tabled-pushes : Pushes g (execRowOf (machineIn g) s)
   unfolding execRowOf
   tabled-pushes =
-      let m = machineOf g in
+      let m = machineIn g in
       let f = formAt m s in
       pushes-by g (execRowOf m s) _ f
       (selected g (execRowOf m s) _ f its-form tabled-words (fit .operands (s .pc) (step-legal .pc-in)) tabled-operands)
       (f .kind) (its-form .words)
 
   -- whose cells exist and hold the result
-  pub memory-holds : MemoryHolds (machineOf g) s
+  pub memory-holds : MemoryHolds (machineIn g) s
   memory-holds = step-legal .memory
 
   -- the next state is made of words
   pub next-words : IsWord (t .pc) × IsWord (t .fp)
   next-words =
-      let f = formAt (machineOf g) s in
+      let f = formAt (machineIn g) s in
       let u = fit .operands (s .pc) (step-legal .pc-in) in
       lands-on-words g (fit .few) s t f w (step-legal .pc-in) _ _ _
       (value-word g s (f .b) fit (rw (its-form .b-is) (u .b)) (step-legal .legal .b))

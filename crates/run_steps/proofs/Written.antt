@@ -14,7 +14,7 @@ use Rattle.form.specs.declared.Kind.the-variants.{Add, Mul, Deref, Jump, Extens
 use Rattle.form.proofs.Forms.{Formed, Words}
 use Rattle.rows.specs.declared.Exec.{Exec}
 use Rattle.rules.specs.Given.{Given, zero?}
-use Rattle.run_steps.specs.Setting.{machineOf, stateOf, OperandWords, ExecWords}
+use Rattle.run_steps.specs.Setting.{machineIn, stateOf, OperandWords, ExecWords}
 use Rattle.run_steps.proofs.Legal.{Forward, Does}
 use Rattle.run_steps.proofs.Rules.{KindRules, NextRules, ValueRules, RowRules}
 use Rattle.run_steps.proofs.Words.{off-times, on-times, holds-off, holds-equal}
@@ -38,7 +38,7 @@ module _ (g : Given) (x y : Exec) (i : Instruction) (f : Form) (formed : Formed 
     on : i .jump ≡ 0 → Forward (stateOf x) (stateOf y) → NextRules (i .jump *ₚ a) a b c (x .pc) (x .fp) (y .pc) (y .fp)
     on z forward = forward-rules (stateOf x) (stateOf y) a b c _ (off-times a z) room forward
 
-    value-rules : (k : Kind) → Words i k → Points (machineOf g) (stateOf x) f (x .addrB) k → Does (machineOf g) (stateOf x) (stateOf y) f k a b c
+    value-rules : (k : Kind) → Words i k → Points (machineIn g) (stateOf x) f (x .addrB) k → Does (machineIn g) (stateOf x) (stateOf y) f k a b c
         → ValueRules x y i a b c
     value-rules Add ws at (e, w) =
         let d = codes i Add ws in

@@ -17,13 +17,14 @@ use Rattle.rows.specs.declared.Exec.{Exec}
 use Rattle.rules.specs.Given.{Given}
 use Rattle.rules.specs.Execution.{νA, νB, νC}
 use Rattle.rules.specs.Bus.{Tuple, pushed, pushes}
-use Rattle.machine.specs.Machine.{Machine, State, loaded, value, legal}
+use Rattle.machine.specs.Machine.{Machine, State, value, legal}
 use Rattle.machine.specs.Extension.{elementAt, cellsExist, result, sameElement}
+use Rattle.tables.specs.Machine.{loaded}
 use Rattle.tables.specs.Rows.{formAt}
 
--- the machine of a program and a memory
-abbrev pub machineOf : Given → Machine
-machineOf g = loaded (g .count) (g .instruction) (g .size) (g .cell)
+-- the machine of numbered instructions and cells; of bytes it is `machineOf`
+abbrev pub machineIn : Given → Machine
+machineIn g = loaded (g .count) (g .instruction) (g .size) (g .cell)
 
 -- the state of a row
 abbrev pub stateOf : Exec → State
@@ -62,9 +63,9 @@ pub record LegalOperands (m : Machine) (s : State) : Type 0 where
 
 -- the values selected are the operands'
 pub record Selected (g : Given) (x : Exec) (i : Instruction) (f : Form) : Type 0 where
-  pub a : νA i x ≡ value (machineOf g) (stateOf x) (f .a)
-  pub b : νB i x ≡ value (machineOf g) (stateOf x) (f .b)
-  pub c : νC i x ≡ value (machineOf g) (stateOf x) (f .c)
+  pub a : νA i x ≡ value (machineIn g) (stateOf x) (f .a)
+  pub b : νB i x ≡ value (machineIn g) (stateOf x) (f .b)
+  pub c : νC i x ≡ value (machineIn g) (stateOf x) (f .c)
 
 -- what an extension instruction asks of the memory, by its operands' values: its cells exist and hold the result. The other kinds ask nothing
 abbrev pub ExtensionHolds : Machine → Kind → ℕ → ℕ → ℕ → Type 0
@@ -104,5 +105,5 @@ PushesBy m f i x (Extension op be n) = OneCall m f i x op be n
 -- how a row over a program and a memory pushes
 abbrev pub Pushes : Given → Exec → Type 0
 Pushes g x =
-    let f = formAt (machineOf g) (stateOf x) in
-    PushesBy (machineOf g) f (g .instruction (x .pc)) x (f .kind)
+    let f = formAt (machineIn g) (stateOf x) in
+    PushesBy (machineIn g) f (g .instruction (x .pc)) x (f .kind)

@@ -8,7 +8,7 @@ use Rattle.rules.specs.Bus.{Tuple, pulls, total, pushedTo, pulledTo}
 use Rattle.machine.specs.Machine.{State}
 use Rattle.tables.specs.Rows.{execRowOf}
 use Rattle.tables.specs.Groups.{lengthAt, stepRow, extRowOf, filled}
-use Rattle.run_steps.specs.Setting.{machineOf, Pushes}
+use Rattle.run_steps.specs.Setting.{machineIn, Pushes}
 use Rattle.run_groups.proofs.Padding.{padding-pulls}
 use Rattle.run_tables.specs.Setting.{tabled}
 use Rattle.run_tables.proofs.Totals.{total-split, total-same, total-longer}
@@ -16,28 +16,28 @@ use Rattle.run_tables.proofs.Places.{row-of, row-past}
 use Rattle.run_tables.proofs.Steps.{pulledBy, counts-none, step-balance}
 
 abbrev pulledAt : Given → (ℕ → State) → ℕ → Tuple → ℕ → ℕ
-pulledAt g state height σ k = pulledBy σ (extRowOf (machineOf g) state 0 height k)
+pulledAt g state height σ k = pulledBy σ (extRowOf (machineIn g) state 0 height k)
 
-module _ (g : Given) (state : ℕ → State) (height extHeight : ℕ) (pushes : (r : ℕ) → r < height → Pushes g (execRowOf (machineOf g) (state r))) (σ : Tuple) where
+module _ (g : Given) (state : ℕ → State) (height extHeight : ℕ) (pushes : (r : ℕ) → r < height → Pushes g (execRowOf (machineIn g) (state r))) (σ : Tuple) where
   -- a group's rows in the table are its step's
   group-pulls : (r : ℕ) → r < height
-      → total (λ j. pulledAt g state height σ (filled (machineOf g) state r + j)) (lengthAt (machineOf g) (state r))
-      ≡ total (λ j. pulledBy σ (stepRow (machineOf g) (state r) j)) (lengthAt (machineOf g) (state r))
-  group-pulls r h = total-same _ _ _ (λ j l. ap (pulledBy σ) (row-of (machineOf g) state height (filled (machineOf g) state r + j) r j h l refl))
+      → total (λ j. pulledAt g state height σ (filled (machineIn g) state r + j)) (lengthAt (machineIn g) (state r))
+      ≡ total (λ j. pulledBy σ (stepRow (machineIn g) (state r) j)) (lengthAt (machineIn g) (state r))
+  group-pulls r h = total-same _ _ _ (λ j l. ap (pulledBy σ) (row-of (machineIn g) state height (filled (machineIn g) state r + j) r j h l refl))
 
   pulled-below : (r : ℕ) → r ≤ height
-      → pulledTo (tabled (machineOf g) state height extHeight) σ (filled (machineOf g) state r)
-      ≡ pushedTo g (tabled (machineOf g) state height extHeight) σ r
+      → pulledTo (tabled (machineIn g) state height extHeight) σ (filled (machineIn g) state r)
+      ≡ pushedTo g (tabled (machineIn g) state height extHeight) σ r
   unfolding filled
   pulled-below zero h = refl
   pulled-below (suc r) h =
-      total-split (pulledAt g state height σ) (filled (machineOf g) state r) (lengthAt (machineOf g) (state r))
+      total-split (pulledAt g state height σ) (filled (machineIn g) state r) (lengthAt (machineIn g) (state r))
       ∙ ap₂ _+_ (pulled-below r (omega arith)) (group-pulls r h ∙ step-balance g σ (state r) (pushes r h))
 
-  pub balanced-bus : filled (machineOf g) state height ≤ extHeight
-      → pushedTo g (tabled (machineOf g) state height extHeight) σ height ≡ pulledTo (tabled (machineOf g) state height extHeight) σ extHeight
+  pub balanced-bus : filled (machineIn g) state height ≤ extHeight
+      → pushedTo g (tabled (machineIn g) state height extHeight) σ height ≡ pulledTo (tabled (machineIn g) state height extHeight) σ extHeight
   balanced-bus room =
       sym
-      (total-longer (pulledAt g state height σ) (filled (machineOf g) state height) extHeight room
-      (λ k past. counts-none σ _ _ (ap pulls (row-past (machineOf g) state height k past) ∙ padding-pulls (g .cell)))
+      (total-longer (pulledAt g state height σ) (filled (machineIn g) state height) extHeight room
+      (λ k past. counts-none σ _ _ (ap pulls (row-past (machineIn g) state height k past) ∙ padding-pulls (g .cell)))
       ∙ pulled-below height (omega arith))

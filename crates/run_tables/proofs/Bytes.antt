@@ -18,7 +18,7 @@ use Rattle.machine.specs.Machine.{Machine, State}
 use Rattle.tables.specs.Rows.{execRowOf}
 use Rattle.tables.specs.Groups.{extRowOf}
 use Rattle.tables.specs.Bytes.{execTable, extTable}
-use Rattle.run_steps.specs.Setting.{machineOf}
+use Rattle.run_steps.specs.Setting.{machineIn}
 use Rattle.run_tables.specs.Setting.{Writable}
 use Rattle.run_tables.proofs.Written.{exec-words, ext-words}
 use Rattle.run_tables.proofs.Words.{words-below, exec-all, ext-all, rows-read}
@@ -51,16 +51,16 @@ module _ (m : Machine) (state : ℕ → State) (height : ℕ) where
   ext-length extHeight = rows-length _ 120 (λ k. ext-width (extRowOf m state 0 height k)) extHeight
 
 module _ {g : Given} {start : State} {height extHeight : ℕ} {state : ℕ → State} (w : Writable g start height extHeight state) where
-  pub exec-read : (r : ℕ) → r < height → execAt (execTable (machineOf g) state height) (32 * r) ≡ execRowOf (machineOf g) (state r)
+  pub exec-read : (r : ℕ) → r < height → execAt (execTable (machineIn g) state height) (32 * r) ≡ execRowOf (machineIn g) (state r)
   exec-read r h =
-      let m = machineOf g in
+      let m = machineIn g in
       let x = execRowOf m (state r) in
       let e = rows-split (λ (i : ℕ). bytesOfWords (execWords (execRowOf m (state i)))) height r h in
       rw (e .1, ← exec-length m state r) (read-exec-at x (words-below (execWords x) (exec-all x (exec-words w r h))) (execTable m state r) (e .0))
 
-  pub ext-read : (k : ℕ) → k < extHeight → extAt (extTable (machineOf g) state height extHeight) (120 * k) ≡ extRowOf (machineOf g) state 0 height k
+  pub ext-read : (k : ℕ) → k < extHeight → extAt (extTable (machineIn g) state height extHeight) (120 * k) ≡ extRowOf (machineIn g) state 0 height k
   ext-read k h =
-      let m = machineOf g in
+      let m = machineIn g in
       let x = extRowOf m state 0 height k in
       let e = rows-split (λ (i : ℕ). bytesOfWords (extWords (extRowOf m state 0 height i))) extHeight k h in
       let f = ext-words w k in
@@ -70,8 +70,8 @@ module _ {g : Given} {start : State} {height extHeight : ℕ} {state : ℕ → S
       (extTable m state height k) (e .0))
 
   -- every word of the bytes is below p
-  pub exec-table-words : Words (execTable (machineOf g) state height)
-  exec-table-words k h = rows-read (λ r. execWords (execRowOf (machineOf g) (state r))) height (λ r l. exec-all _ (exec-words w r l)) k
+  pub exec-table-words : Words (execTable (machineIn g) state height)
+  exec-table-words k h = rows-read (λ r. execWords (execRowOf (machineIn g) (state r))) height (λ r l. exec-all _ (exec-words w r l)) k
 
-  pub ext-table-words : Words (extTable (machineOf g) state height extHeight)
-  ext-table-words k h = rows-read (λ i. extWords (extRowOf (machineOf g) state 0 height i)) extHeight (λ i l. ext-all _ (ext-words w i)) k
+  pub ext-table-words : Words (extTable (machineIn g) state height extHeight)
+  ext-table-words k h = rows-read (λ i. extWords (extRowOf (machineIn g) state 0 height i)) extHeight (λ i l. ext-all _ (ext-words w i)) k

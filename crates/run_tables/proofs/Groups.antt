@@ -11,7 +11,7 @@ use Rattle.rules.specs.Extension.{extRules}
 use Rattle.rules.specs.Satisfies.{All}
 use Rattle.machine.specs.Machine.{Machine, State}
 use Rattle.tables.specs.Groups.{lengthAt, extRowOf, filled}
-use Rattle.run_steps.specs.Setting.{machineOf, Fit}
+use Rattle.run_steps.specs.Setting.{machineIn, Fit}
 use Rattle.run_groups.proofs.Meaning.{RowWords}
 use Rattle.run_groups.proofs.Pairs.{next-inner, next-later}
 use Rattle.run_groups.proofs.Padding.{padding-words, padding-rules, padding-start}
@@ -27,45 +27,45 @@ first-there m state r r' j l e =
 
 module _ (g : Given) (state : ℕ → State) (height : ℕ) where
   -- so it starts a group, or is padding
-  seam-starts : (r k : ℕ) → k ≡ filled (machineOf g) state r → extRowOf (machineOf g) state 0 height k .start ≡ 1
-  seam-starts r k at = go (find (machineOf g) state height k)
+  seam-starts : (r k : ℕ) → k ≡ filled (machineIn g) state r → extRowOf (machineIn g) state 0 height k .start ≡ 1
+  seam-starts r k at = go (find (machineIn g) state height k)
     where
-      go : Where (machineOf g) state height k → extRowOf (machineOf g) state 0 height k .start ≡ 1
-      go (past h) = rw (row-past (machineOf g) state height k h) (padding-start (g .cell))
+      go : Where (machineIn g) state height k → extRowOf (machineIn g) state 0 height k .start ≡ 1
+      go (past h) = rw (row-past (machineIn g) state height k h) (padding-start (g .cell))
       go (group r' j h l e) =
-          let first = first-there (machineOf g) state r r' j l (sym at ∙ e) in
-          rw (row-of (machineOf g) state height k r' j h l e, first) (step-starts g (state r') (omega arith))
+          let first = first-there (machineIn g) state r r' j l (sym at ∙ e) in
+          rw (row-of (machineIn g) state height k r' j h l e, first) (step-starts g (state r') (omega arith))
 
   module _ (fit : Fit g) (five : 5 ≤ g .size) (calls : (r : ℕ) → r < height → Calls g (state r)) where
-    pub group-words : (k : ℕ) → RowWords (extRowOf (machineOf g) state 0 height k)
-    group-words k = go (find (machineOf g) state height k)
+    pub group-words : (k : ℕ) → RowWords (extRowOf (machineIn g) state 0 height k)
+    group-words k = go (find (machineIn g) state height k)
       where
-        go : Where (machineOf g) state height k → RowWords (extRowOf (machineOf g) state 0 height k)
-        go (past h) = rw (row-past (machineOf g) state height k h) (padding-words g five (fit .cells))
-        go (group r j h l e) = rw (row-of (machineOf g) state height k r j h l e) (step-words g (state r) (calls r h) j l)
+        go : Where (machineIn g) state height k → RowWords (extRowOf (machineIn g) state 0 height k)
+        go (past h) = rw (row-past (machineIn g) state height k h) (padding-words g five (fit .cells))
+        go (group r j h l e) = rw (row-of (machineIn g) state height k r j h l e) (step-words g (state r) (calls r h) j l)
 
-    pub group-rules : (extHeight : ℕ) → filled (machineOf g) state height + 1 ≤ extHeight → (k : ℕ)
-        → All (extRules g (extRowOf (machineOf g) state 0 height k) (extRowOf (machineOf g) state 0 height (next extHeight k)))
-    group-rules extHeight room k = go (find (machineOf g) state height k)
+    pub group-rules : (extHeight : ℕ) → filled (machineIn g) state height + 1 ≤ extHeight → (k : ℕ)
+        → All (extRules g (extRowOf (machineIn g) state 0 height k) (extRowOf (machineIn g) state 0 height (next extHeight k)))
+    group-rules extHeight room k = go (find (machineIn g) state height k)
       where
         ext : ℕ → Ext
-        ext = extRowOf (machineOf g) state 0 height
+        ext = extRowOf (machineIn g) state 0 height
 
-        within : (r j : ℕ) → r < height → j < lengthAt (machineOf g) (state r) → k ≡ filled (machineOf g) state r + j → All (extRules g (ext k) (ext (k + 1)))
+        within : (r j : ℕ) → r < height → j < lengthAt (machineIn g) (state r) → k ≡ filled (machineIn g) state r + j → All (extRules g (ext k) (ext (k + 1)))
         within r j h l e =
-            by-order (j + 1) (lengthAt (machineOf g) (state r))
+            by-order (j + 1) (lengthAt (machineIn g) (state r))
             (λ more.
-            rw (row-of (machineOf g) state height k r j h l e, row-of (machineOf g) state height (k + 1) r (j + 1) h more (omega arith))
+            rw (row-of (machineIn g) state height k r j h l e, row-of (machineIn g) state height (k + 1) r (j + 1) h more (omega arith))
             (step-inside g (state r) (calls r h) j more))
             (λ last.
-            rw (row-of (machineOf g) state height k r j h l e)
-            (step-seam g (state r) (calls r h) j (omega arith) _ (seam-starts (suc r) (k + 1) (omega (arith, filled-on (machineOf g) state r)))))
+            rw (row-of (machineIn g) state height k r j h l e)
+            (step-seam g (state r) (calls r h) j (omega arith) _ (seam-starts (suc r) (k + 1) (omega (arith, filled-on (machineIn g) state r)))))
 
-        go : Where (machineOf g) state height k → All (extRules g (ext k) (ext (next extHeight k)))
+        go : Where (machineIn g) state height k → All (extRules g (ext k) (ext (next extHeight k)))
         go (past h) =
-            rw (row-past (machineOf g) state height k h)
+            rw (row-past (machineIn g) state height k h)
             (padding-rules g five _
-            (rw (row-past (machineOf g) state height (next extHeight k) (omega (arith, next-later extHeight k))) (padding-start (g .cell))))
+            (rw (row-past (machineIn g) state height (next extHeight k) (omega (arith, next-later extHeight k))) (padding-start (g .cell))))
         go (group r j h l e) =
-            let inside : k + 1 < extHeight = omega (arith, filled-on (machineOf g) state r, filled-grows (machineOf g) state (suc r) height h) in
+            let inside : k + 1 < extHeight = omega (arith, filled-on (machineIn g) state r, filled-grows (machineIn g) state (suc r) height h) in
             rw (next-inner extHeight k inside) (within r j h l e)

@@ -9,7 +9,7 @@ use Rattle.machine.specs.Step.{goes}
 use Rattle.machine.specs.Run.{StayingRun, after}
 use Rattle.tables.specs.Rows.{stateAt}
 use Rattle.tables.specs.Groups.{lengthAt, filled}
-use Rattle.run_steps.specs.Setting.{machineOf}
+use Rattle.run_steps.specs.Setting.{machineIn}
 use Rattle.run_tables.specs.Setting.{Writable}
 
 module _ {m : Machine} {start : State} {last : ℕ} {state : ℕ → State} (run : StayingRun m start last state) where
@@ -39,7 +39,7 @@ module _ {m : Machine} {start : State} {last : ℕ} {state : ℕ → State} (run
 -- what can be written from a run can be written from the machine's own states
 pub own-writable : {g : Given} {start : State} {height extHeight : ℕ} {state : ℕ → State}
     → Writable g start height extHeight state
-    → Writable g start height extHeight (stateAt (machineOf g) start)
+    → Writable g start height extHeight (stateAt (machineIn g) start)
 own-writable {height} w =
     record {
       fit = w .fit;

@@ -7,7 +7,7 @@ use lib.ListN.{length}
 use Rattle.rules.specs.Satisfies.{Satisfies}
 use Rattle.rules.specs.Sizes.{Parts, givenOf, tablesOf}
 use Rattle.machine.specs.Machine.{State}
-use Rattle.run_steps.specs.Setting.{machineOf, stateOf}
+use Rattle.run_steps.specs.Setting.{machineIn, stateOf}
 use Rattle.run_tables.specs.Setting.{tabled, TabledRun}
 use Rattle.run_tables.proofs.Written.{begins, satisfied}
 use Rattle.run_tables.proofs.Bytes.{exec-length, ext-length, exec-read, ext-read, exec-table-words, ext-table-words}
@@ -15,12 +15,12 @@ use Rattle.run_tables.proofs.Same.{SameRows, constraints-same}
 
 module _ {q : Parts} {height extHeight : ℕ} {state : ℕ → State} (run : TabledRun q height extHeight state) where
   exec-bytes : length (q .exec) ≡ 32 * height
-  exec-bytes = ap length (run .exec) ∙ exec-length (machineOf (givenOf q)) state height
+  exec-bytes = ap length (run .exec) ∙ exec-length (machineIn (givenOf q)) state height
 
   ext-bytes : length (q .ext) ≡ 120 * extHeight
-  ext-bytes = ap length (run .ext) ∙ ext-length (machineOf (givenOf q)) state height extHeight
+  ext-bytes = ap length (run .ext) ∙ ext-length (machineIn (givenOf q)) state height extHeight
 
-  tables-same : SameRows (tabled (machineOf (givenOf q)) state height extHeight) (tablesOf q)
+  tables-same : SameRows (tabled (machineIn (givenOf q)) state height extHeight) (tablesOf q)
   tables-same =
       record {
         height = omega (arith, exec-bytes);

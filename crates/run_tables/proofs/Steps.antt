@@ -18,7 +18,7 @@ use Rattle.rules.specs.Bus.{Tuple, sameTuple, pushed, pushes, pulled, pulls, to
 use Rattle.machine.specs.Machine.{State, value}
 use Rattle.tables.specs.Rows.{formAt, execRowOf}
 use Rattle.tables.specs.Groups.{lengthOf, lengthAt, stepRowBy, stepRow, groupRow}
-use Rattle.run_steps.specs.Setting.{machineOf, stateOf, Fit, ExtensionHolds, MemoryHolds, PushesBy, Pushes}
+use Rattle.run_steps.specs.Setting.{machineIn, stateOf, Fit, ExtensionHolds, MemoryHolds, PushesBy, Pushes}
 use Rattle.run_groups.proofs.Meaning.{RowWords}
 use Rattle.run_groups.proofs.Tabled.{Called, row-words, inside-rules, seam-rules, start-first, pulls-first, pulls-later, pulled-first}
 use Rattle.run_tables.proofs.Totals.{total-first}
@@ -43,17 +43,17 @@ CallsBy g s Mul = Unit
 CallsBy g s Deref = Unit
 CallsBy g s Jump = Unit
 CallsBy g s (Extension op be n) =
-    let m = machineOf g in
+    let m = machineIn g in
     let f = formAt m s in
     Called g op be n (value m s (f .a)) (value m s (f .b)) (value m s (f .c))
 
 abbrev pub Calls : Given → State → Type 0
-Calls g s = CallsBy g s (formAt (machineOf g) s .kind)
+Calls g s = CallsBy g s (formAt (machineIn g) s .kind)
 
 module _ (g : Given) (fit : Fit g) (s : State) (i : Instruction) (x : Exec) where
   calls-by : (k : Kind)
-      → (let m = machineOf g in let f = formAt m s in ExtensionHolds m k (value m s (f .a)) (value m s (f .b)) (value m s (f .c)))
-      → PushesBy (machineOf g) (formAt (machineOf g) s) i x k → CallsBy g s k
+      → (let m = machineIn g in let f = formAt m s in ExtensionHolds m k (value m s (f .a)) (value m s (f .b)) (value m s (f .c)))
+      → PushesBy (machineIn g) (formAt (machineIn g) s) i x k → CallsBy g s k
   calls-by Add h o = tt
   calls-by Mul h o = tt
   calls-by Deref h o = tt
@@ -67,10 +67,10 @@ module _ (g : Given) (fit : Fit g) (s : State) (i : Instruction) (x : Exec) wher
         legal = record { exist = exist; same = same };
       }
 
-pub calls : (g : Given) → Fit g → (s : State) → MemoryHolds (machineOf g) s → Pushes g (execRowOf (machineOf g) s) → Calls g s
+pub calls : (g : Given) → Fit g → (s : State) → MemoryHolds (machineIn g) s → Pushes g (execRowOf (machineIn g) s) → Calls g s
 unfolding execRowOf
 calls g fit s h o =
-    let m = machineOf g in
+    let m = machineIn g in
     calls-by g fit s (g .instruction (s .pc)) (execRowOf m s) (formAt m s .kind) h o
 
 -- only an extension fills rows
@@ -82,39 +82,39 @@ only-extension P e Jump h = absurd (omega arith)
 only-extension P e (Extension op be n) h = e op be n
 
 module _ (g : Given) (s : State) where
-  pub step-starts : 0 < lengthAt (machineOf g) s → stepRow (machineOf g) s 0 .start ≡ 1
+  pub step-starts : 0 < lengthAt (machineIn g) s → stepRow (machineIn g) s 0 .start ≡ 1
   step-starts =
-      only-extension (λ (k : Kind). stepRowBy (machineOf g) s 0 k .start ≡ 1) (λ op be n. start-first (g .cell) op be n _ _ _)
-      (formAt (machineOf g) s .kind)
+      only-extension (λ (k : Kind). stepRowBy (machineIn g) s 0 k .start ≡ 1) (λ op be n. start-first (g .cell) op be n _ _ _)
+      (formAt (machineIn g) s .kind)
 
   module _ (c : Calls g s) (j : ℕ) where
-    pub step-words : j < lengthAt (machineOf g) s → RowWords (stepRow (machineOf g) s j)
+    pub step-words : j < lengthAt (machineIn g) s → RowWords (stepRow (machineIn g) s j)
     step-words l =
-        only-extension (λ (k : Kind). CallsBy g s k → j < lengthOf k → RowWords (stepRowBy (machineOf g) s j k))
-        (λ op be n d. row-words d j) (formAt (machineOf g) s .kind) (omega arith) c l
+        only-extension (λ (k : Kind). CallsBy g s k → j < lengthOf k → RowWords (stepRowBy (machineIn g) s j k))
+        (λ op be n d. row-words d j) (formAt (machineIn g) s .kind) (omega arith) c l
 
-    pub step-inside : j + 1 < lengthAt (machineOf g) s → All (extRules g (stepRow (machineOf g) s j) (stepRow (machineOf g) s (j + 1)))
+    pub step-inside : j + 1 < lengthAt (machineIn g) s → All (extRules g (stepRow (machineIn g) s j) (stepRow (machineIn g) s (j + 1)))
     step-inside l =
         only-extension
         (λ (k : Kind).
-        CallsBy g s k → j + 1 < lengthOf k → All (extRules g (stepRowBy (machineOf g) s j k) (stepRowBy (machineOf g) s (j + 1) k)))
-        (λ op be n d. inside-rules d j) (formAt (machineOf g) s .kind) (omega arith) c l
+        CallsBy g s k → j + 1 < lengthOf k → All (extRules g (stepRowBy (machineIn g) s j k) (stepRowBy (machineIn g) s (j + 1) k)))
+        (λ op be n d. inside-rules d j) (formAt (machineIn g) s .kind) (omega arith) c l
 
-    pub step-seam : j + 1 ≡ lengthAt (machineOf g) s → (y : Ext) → y .start ≡ 1 → All (extRules g (stepRow (machineOf g) s j) y)
+    pub step-seam : j + 1 ≡ lengthAt (machineIn g) s → (y : Ext) → y .start ≡ 1 → All (extRules g (stepRow (machineIn g) s j) y)
     step-seam e y one =
-        only-extension (λ (k : Kind). CallsBy g s k → j + 1 ≡ lengthOf k → All (extRules g (stepRowBy (machineOf g) s j k) y))
-        (λ op be n d e'. seam-rules d j e' y one) (formAt (machineOf g) s .kind) (omega arith) c e
+        only-extension (λ (k : Kind). CallsBy g s k → j + 1 ≡ lengthOf k → All (extRules g (stepRowBy (machineIn g) s j k) y))
+        (λ op be n d e'. seam-rules d j e' y one) (formAt (machineIn g) s .kind) (omega arith) c e
 
 -- a group pulls, on its first row, the one call that its step pushes
 module _ (g : Given) (σ : Tuple) (i : Instruction) (x : Exec) where
-  balance-by : (k : Kind) → PushesBy (machineOf g) (formAt (machineOf g) (stateOf x)) i x k
-      → total (λ j. pulledBy σ (stepRowBy (machineOf g) (stateOf x) j k)) (lengthOf k) ≡ counted σ (pushed i x) (pushes i)
+  balance-by : (k : Kind) → PushesBy (machineIn g) (formAt (machineIn g) (stateOf x)) i x k
+      → total (λ j. pulledBy σ (stepRowBy (machineIn g) (stateOf x) j k)) (lengthOf k) ≡ counted σ (pushed i x) (pushes i)
   balance-by Add o = sym (counts-none σ (pushed i x) (pushes i) o)
   balance-by Mul o = sym (counts-none σ (pushed i x) (pushes i) o)
   balance-by Deref o = sym (counts-none σ (pushed i x) (pushes i) o)
   balance-by Jump o = sym (counts-none σ (pushed i x) (pushes i) o)
   balance-by (Extension op be n) o =
-      let m = machineOf g in
+      let m = machineIn g in
       let f = formAt m (stateOf x) in
       let a = value m (stateOf x) (f .a) in
       let b = value m (stateOf x) (f .b) in
@@ -123,9 +123,9 @@ module _ (g : Given) (σ : Tuple) (i : Instruction) (x : Exec) where
       (λ j h. counts-none σ _ _ (pulls-later (g .cell) op be n a b c j h))
       ∙ ap₂ (counted σ) (pulled-first (g .cell) op be n a b c (o .most) ∙ sym (o .tuple)) (pulls-first (g .cell) op be n a b c ∙ sym (o .once))
 
-pub step-balance : (g : Given) (σ : Tuple) (s : State) → Pushes g (execRowOf (machineOf g) s)
-    → total (λ j. pulledBy σ (stepRow (machineOf g) s j)) (lengthAt (machineOf g) s) ≡ pushedBy g σ (execRowOf (machineOf g) s)
+pub step-balance : (g : Given) (σ : Tuple) (s : State) → Pushes g (execRowOf (machineIn g) s)
+    → total (λ j. pulledBy σ (stepRow (machineIn g) s j)) (lengthAt (machineIn g) s) ≡ pushedBy g σ (execRowOf (machineIn g) s)
 unfolding execRowOf
 step-balance g σ s o =
-    let m = machineOf g in
+    let m = machineIn g in
     balance-by g σ (g .instruction (s .pc)) (execRowOf m s) (formAt m s .kind) o

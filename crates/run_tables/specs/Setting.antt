@@ -12,7 +12,7 @@ use Rattle.machine.specs.Run.{StayingRun}
 use Rattle.tables.specs.Rows.{execRowOf}
 use Rattle.tables.specs.Groups.{extRowOf, filled}
 use Rattle.tables.specs.Bytes.{execTable, extTable}
-use Rattle.run_steps.specs.Setting.{machineOf, Fit}
+use Rattle.run_steps.specs.Setting.{machineIn, Fit}
 
 -- H execution rows of the states, and K extension rows: each extension step's group, then padding
 abbrev pub tabled : Machine → (ℕ → State) → ℕ → ℕ → Tables
@@ -30,8 +30,8 @@ pub record Writable (g : Given) (start : State) (height extHeight : ℕ) (state 
   pub five : 5 ≤ g .size
   pub frame : IsWord (start .fp)
   pub some : 1 ≤ height
-  pub run : StayingRun (machineOf g) start (height - 1) state
-  pub room : filled (machineOf g) state height + 1 ≤ extHeight
+  pub run : StayingRun (machineIn g) start (height - 1) state
+  pub room : filled (machineIn g) state height + 1 ≤ extHeight
 
 -- parts whose sizes and words pass, and whose two tables are the bytes of a run from their start
 pub record TabledRun (q : Parts) (height extHeight : ℕ) (state : ℕ → State) : Type 0 where
@@ -42,5 +42,5 @@ pub record TabledRun (q : Parts) (height extHeight : ℕ) (state : ℕ → State
   pub program-words : Words (q .program)
   pub memory-words : Words (q .memory)
   pub writable : Writable (givenOf q) (record { pc = q .pc; fp = q .fp }) height extHeight state
-  pub exec : q .exec ≡ execTable (machineOf (givenOf q)) state height
-  pub ext : q .ext ≡ extTable (machineOf (givenOf q)) state height extHeight
+  pub exec : q .exec ≡ execTable (machineIn (givenOf q)) state height
+  pub ext : q .ext ≡ extTable (machineIn (givenOf q)) state height extHeight

@@ -12,8 +12,9 @@ use Rattle.answer.specs.declared.Answer.the-variants.{Accepted, Stuck, Room, Op
 use Rattle.answer.specs.declared.Answer.{Answer}
 use Rattle.machine.specs.Machine.{Machine, State}
 use Rattle.machine.specs.Step.{Outcome, goes, stuck, step}
+use Rattle.tables.specs.Machine.{machineOf}
 use Rattle.tables.specs.Groups.{lengthAt}
-use Rattle.tabler_spec.specs.Tabled.{sameState, onStep, machineOf, running, heldAfter, tableOf, execAfter, extAfter}
+use Rattle.tabler_spec.specs.Tabled.{sameState, onStep, running, heldAfter, tableOf, execAfter, extAfter}
 use Rattle.tabler.specs.Ends.{runOf, Ended, Tabling}
 use Rattle.tabler_operands.specs.Looked.{at}
 

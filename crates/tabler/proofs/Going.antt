@@ -18,7 +18,7 @@ use Rattle.machine.specs.Machine.{Machine, State}
 use Rattle.machine.specs.Step.{Outcome, goes, stuck, asked, step}
 use Rattle.tables.specs.Groups.{lengthOf, stepRow}
 use Rattle.tables.specs.Rows.{formAt}
-use Rattle.tabler_spec.specs.Tabled.{machineOf}
+use Rattle.tables.specs.Machine.{machineOf}
 use Rattle.tabler_operands.specs.Looked.{at, operandsOf}
 use Rattle.tabler_operands.specs.declared.Operands.{Operands}
 use Rattle.tabler_rows.specs.Placed.{extBytes, placed}

@@ -6,8 +6,9 @@ use lib.ListN.{length}
 use Rattle.answer.specs.declared.Answer.the-variants.{Accepted}
 use Rattle.answer.specs.declared.Answer.{Answer}
 use Rattle.tables.specs.Bytes.{execTable, extTable}
+use Rattle.tables.specs.Machine.{machineOf}
 use Rattle.tables.specs.Rows.{stateAt}
-use Rattle.tabler_spec.specs.Tabled.{machineOf, running, heldAfter}
+use Rattle.tabler_spec.specs.Tabled.{running, heldAfter}
 use Rattle.tabler_operands.specs.Looked.{at}
 
 -- what the tabler is handed: the start and the bytes, those of the tables as they are at entry

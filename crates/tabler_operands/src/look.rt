@@ -14,7 +14,7 @@ ghost use lib.ListN.{length};
 ghost use Rattle.word.specs.Word.{_+ₚ_};
 ghost use Rattle.rules.specs.Sizes.{wordOf};
 ghost use Rattle.machine.specs.Machine.{value};
-ghost use Rattle.tabler_spec.specs.Tabled.{machineOf};
+ghost use Rattle.tables.specs.Machine.{machineOf};
 ghost use Rattle.tabler_operands.specs.Looked.{at, lookedOf, targeted, lookedB, operandsOf};
 
 // A cell read is legal where the cell exists; an operand that reads none has column 0.
@@ -48,11 +48,11 @@ fn look(memory: &[u8], fp: u32, o: Operand) -> Looked
     }
 }
 
-// DEREF's target is the cell at the sum of its operands A and B.
-fn look_target(memory: &[u8], a: u32, b: Looked) -> Looked
-    ensures { λ r. ⌜ r ≡ targeted (wordOf (now (memory .entry))) (length (now (memory .entry)) / 4) (a +ₚ b .value) b ⌝ }
+// DEREF's target is the cell at A's value plus β.
+fn look_target(memory: &[u8], a: u32, word: u32, b: Looked) -> Looked
+    ensures { λ r. ⌜ r ≡ targeted (wordOf (now (memory .entry))) (length (now (memory .entry)) / 4) (a +ₚ word) b ⌝ }
 {
-    let k = add(a, b.value);
+    let k = add(a, word);
     Looked {
         legal: b.legal & ((k as usize) < memory.len() / 4),
         addr: k,
@@ -71,7 +71,7 @@ fn look_b(memory: &[u8], fp: u32, f: Form, a: u32) -> Looked
     match kind {
         Kind::Add => x,
         Kind::Mul => x,
-        Kind::Deref => look_target(memory, a, x),
+        Kind::Deref => look_target(memory, a, b.word, x),
         Kind::Jump => x,
         Kind::Extension { op: _, be: _, n: _ } => x,
     }

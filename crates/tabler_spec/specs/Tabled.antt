@@ -1,11 +1,10 @@
 -- Document 01, "The tabler" and "Verdicts" 1 to 4 and 9 to 11: the tabler's answer, and both tables at return.
-use Prim.Native.Nat.{ℕ, zero, suc, _+_, _-_, _*_, _/_}
+use Prim.Native.Nat.{ℕ, zero, suc, _+_, _-_, _/_}
 use mathlib.Core.Bool.{Bool, _&&_, cond}
 use mathlib.Core.List.{List, []}
 use lib.ListN.{length, replicate}
 use lib.Dec.{leb, ltb, eqb}
 use Rattle.word.specs.Word.{p}
-use Rattle.form.specs.Instruction.{instructionAt}
 use Rattle.answer.specs.declared.Answer.{Answer}
 use Rattle.answer.specs.declared.Answer.the-variants.{
   Accepted,
@@ -23,18 +22,14 @@ use Rattle.answer.specs.declared.Answer.the-variants.{
   Itself,
   Buffer,
 }
-use Rattle.machine.specs.Machine.{Machine, State, loaded}
+use Rattle.machine.specs.Machine.{Machine, State}
 use Rattle.machine.specs.Step.{Outcome, goes, stuck, step}
+use Rattle.tables.specs.Machine.{machineOf}
 use Rattle.tables.specs.Rows.{stateAt}
 use Rattle.tables.specs.Groups.{lengthAt}
 use Rattle.tables.specs.Bytes.{execTable, extTable}
-use Rattle.rules.specs.Sizes.{wordOf, given}
+use Rattle.rules.specs.Sizes.{given}
 use Rattle.judge_spec.specs.Judged.{sizes, words, instructions}
-
--- the machine of a program's and a memory's bytes
-abbrev pub machineOf : List ℕ → List ℕ → Machine
-machineOf program memory =
-    loaded (length program / 48) (λ i. instructionAt program (48 * i)) (length memory / 4) (wordOf memory)
 
 abbrev pub sameState : State → State → Bool
 sameState s t = eqb (s .pc) (t .pc) && eqb (s .fp) (t .fp)

@@ -1,3 +1,4 @@
+pub mod Machine
 pub mod Rows
 pub mod Groups
 pub mod Bytes

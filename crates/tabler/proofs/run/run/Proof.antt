@@ -7,7 +7,7 @@ use lib.ListN.{length}
 use Rattle.form.specs.declared.Form.{Form}
 use Rattle.machine.specs.Step.{step, goes}
 use Rattle.tables.specs.Groups.{lengthOf}
-use Rattle.tabler_spec.specs.Tabled.{machineOf}
+use Rattle.tables.specs.Machine.{machineOf}
 use Rattle.tabler_operands.specs.Looked.{at, operandsOf}
 use Rattle.tabler.proofs.Going.{went, held-up}
 use Rattle.tabler.proofs.Looking.{row-written}

@@ -4,7 +4,7 @@ use mathlib.Core.Path.{_∙_, ap}
 use native.Mathlib.Omega.{arith}
 use Rattle.form.specs.Form.{wellFormed, decodeOf}
 use Rattle.form.proofs.Part.{instruction-lent}
-use Rattle.machine.specs.Machine.{formIn}
+use Rattle.tables.specs.Machine.{formIn}
 use Rattle.tabler.proofs.step.form_at.Statement.{statement}
 use Rattle.tabler.proofs.step.form_at.Tie as tie
 

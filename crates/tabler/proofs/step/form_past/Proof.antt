@@ -2,7 +2,7 @@
 use borrow.Author.Needs.{needs}
 use mathlib.Core.Path.{_∙_, ap}
 use Rattle.form.specs.Form.{decodeOf}
-use Rattle.machine.specs.Machine.{formIn}
+use Rattle.tables.specs.Machine.{formIn}
 use Rattle.tabler.proofs.step.form_past.Statement.{statement}
 use Rattle.tabler.proofs.step.form_past.Tie as tie
 
