@@ -20,7 +20,7 @@ use Rattle.judge_spec.specs.First.{first}
 use Rattle.judge_spec.proofs.FirstLaws.{first-none, first-past}
 use Rattle.tables.specs.Rows.{stateAt}
 use Rattle.run.specs.Runs.{Input, Permitted, LegalRun, Spare, machine, startOf}
-use Rattle.run.proofs.Lengths.{whole}
+use Rattle.judge_spec.proofs.Lengths.{whole}
 use Rattle.judge_spec.specs.Judged.{firstWord, firstMalformed}
 use Rattle.tabler_spec.specs.Tabled.{tableOf, running}
 use Rattle.run.proofs.Accepts.{running-accepts}
@@ -59,7 +59,7 @@ pub accepts : (i : Input) → Permitted i → (height extHeight : ℕ) (state : 
     → answerFor i height extHeight ≡ Accepted
 unfolding tableOf
 accepts i permitted height extHeight state legal spare =
-    let rows = whole (32 * height) 32 17 (legal .permitted) .number .least in
+    let rows = whole (32 * height) 32 25 (legal .permitted) .number .least in
     let least : suc (height - 1) ≡ height = omega arith in
     let heights : 32 * height / 32 ≡ height = omega arith in
     let extHeights : 120 * extHeight / 120 ≡ extHeight = omega arith in
@@ -112,7 +112,7 @@ accepted-only i height extHeight e =
     let b = passed (ltb (i .pc) p && ltb (i .fp) p) _ Start not-start (k .1) in
     let starts = both (ltb (i .pc) p) (ltb (i .fp) p) (b .0) in
     let run = accepted-runs (machine i) _ _ (startOf i) 0 0 (b .1) in
-    let rows = whole (32 * height) 32 17 (holds _ (s3 .0)) .number .least in
+    let rows = whole (32 * height) 32 25 (holds _ (s3 .0)) .number .least in
     let heights : 32 * height / 32 ≡ height = omega arith in
     let least : suc (32 * height / 32 - 1) ≡ height = omega arith in
     let extHeights : 120 * extHeight / 120 ≡ extHeight = omega arith in
