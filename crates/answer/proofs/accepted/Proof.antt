@@ -2,9 +2,9 @@
 use borrow.Author.Needs.{needs}
 use mathlib.Core.Path.{ap}
 use lib.Dec.{eqb}
 use Rattle.answer.specs.declared.Numbers.{Numbers}
-use Rattle.program_build.proofs.accepted.Statement.{statement}
-use Rattle.program_build.proofs.accepted.Tie as tie
+use Rattle.answer.proofs.accepted.Statement.{statement}
+use Rattle.answer.proofs.accepted.Tie as tie
 
 returns : tie.Need-returns
 returns c = ap (λ (n : Numbers). eqb (n .verdict) 0) (c .before .four-numbers .ensures)

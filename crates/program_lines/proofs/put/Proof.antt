@@ -1,4 +1,4 @@
--- `place::copy` meets its contract. The invariant: the first i bytes stand in their place. The measure is the bytes left.
+-- The invariant: the first i bytes stand in their place. The measure is the bytes left.
 use Prim.Native.Nat.{_-_, _≤_}
 use mathlib.Core.Path.{_≡_, refl, _∙_}
 use native.Mathlib.Numerals.{add-one}
@@ -6,8 +6,8 @@ use native.Mathlib.Omega.{arith}
 use borrow.Author.Needs.{needs}
 use lib.ListN.{length, length-set}
 use lib.Seq.{paste, paste-zero, paste-suc, take-length}
-use Rattle.program_lines.proofs.place.copy.Statement.{statement}
-use Rattle.program_lines.proofs.place.copy.Tie as tie
+use Rattle.program_lines.proofs.put.Statement.{statement}
+use Rattle.program_lines.proofs.put.Tie as tie
 
 abbrev Inv-loop : tie.InvT-loop
 Inv-loop bytes at out₀ i₀ out i = (i ≤ length bytes) × (length out ≡ length out₀) × (out ≡ paste out₀ at bytes i)
@@ -32,10 +32,10 @@ returns c =
     let l = c .before .loop in
     let s = c .before .before .args in
     let e : l .i ≡ length (s .bytes .now) = omega arith in
-    l .inv .2 ∙ rw (e, take-length (s .bytes .now))
+    (search needs, l .inv .2 ∙ rw (e, take-length (s .bytes .now)))
 
-pub copy-spec : {M : Type 1} → statement M
-copy-spec =
+pub put-spec : {M : Type 1} → statement M
+put-spec =
     tie.close
     (tie.spec
     Inv-loop
@@ -47,5 +47,6 @@ copy-spec =
     (λ c. search needs)
     (λ c. search needs)
     loop-again
+    (λ c. search needs)
     (λ c. search needs)
     returns)
