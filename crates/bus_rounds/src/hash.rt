@@ -21,20 +21,20 @@ pub fn class_of(t: Sent, rounds: u64) -> u64
     requires { ⌜ 0 < rounds ⌝ }
     ensures { λ r. ⌜ r ≡ classOf rounds (tupleOf t) ⌝ }
 {
-    hash(t) / 17203 % rounds
+    hash(t) / 6553 % rounds
 }
 
 pub fn slot_of(t: Sent) -> usize
-    ensures { λ r. ⌜ r < 17203 ⌝ }
+    ensures { λ r. ⌜ r < 6553 ⌝ }
 {
-    (hash(t) % 17203) as usize
+    (hash(t) % 6553) as usize
 }
 
 // How far apart the slots are that are tried for a tuple: another number for each, so that they don't crowd.
 pub fn step_of(t: Sent) -> usize
-    ensures { λ r. ⌜ r < 17203 ⌝ }
+    ensures { λ r. ⌜ r < 6553 ⌝ }
 {
-    (1 + hash(t) / 65536 % 16384) as usize
+    (1 + hash(t) / 65536 % 6552) as usize
 }
 
 // Where the numbers of a tuple's tag begin. A tag is below 127 or 7, so that none of them is the number of a slot that was taken.
