@@ -10,10 +10,7 @@ use lib.Dec.{eqb}
 use Rattle.rows.specs.Rows.{extAt}
 use Rattle.rules.specs.Bus.{Tuple, sameTuple, pulled, total, pushedTo, pulledTo}
 use Rattle.rules.specs.Sizes.{given, tables}
-
--- any function of the tuple would do
-unfoldable pub hashOf : Tuple → ℕ
-hashOf σ = 668265263 * σ .aux + 1013904223 * σ .left + 374761393 * σ .right + 914744491 * σ .out
+use Rattle.bus_tuples.specs.Sent.{hashOf}
 
 -- the round in which a tuple is settled
 unfoldable pub classOf : ℕ → Tuple → ℕ

@@ -11,7 +11,8 @@ use borrow.Author.Tests.{not-false}
 use borrow.Author.Count.{below-more}
 use Rattle.rules.specs.Bus.{Tuple, pushedTo, pulledTo}
 use Rattle.rules.specs.Sizes.{given, tables}
-use Rattle.bus_rounds.specs.Slots.{hashOf, classOf, Room}
+use Rattle.bus_tuples.specs.Sent.{hashOf}
+use Rattle.bus_rounds.specs.Slots.{classOf, Room}
 use Rattle.bus_rounds.proofs.pairs_up.Statement.{statement}
 use Rattle.bus_rounds.proofs.pairs_up.Tie as tie
 
