@@ -1,9 +1,9 @@
 -- Four words times numbers below 2^30 fit 64 bits.
 use native.Mathlib.Omega.{arith}
-use Rattle.bus_rounds.specs.Slots.{hashOf}
+use Rattle.bus_tuples.specs.Sent.{hashOf}
 use borrow.Author.Needs.{needs}
-use Rattle.bus_rounds.proofs.hash.hash.Statement.{statement}
-use Rattle.bus_rounds.proofs.hash.hash.Tie as tie
+use Rattle.bus_tuples.proofs.tuple.hash.Statement.{statement}
+use Rattle.bus_tuples.proofs.tuple.hash.Tie as tie
 
 returns : tie.Need-returns
 unfolding hashOf

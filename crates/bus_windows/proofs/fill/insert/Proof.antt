@@ -5,8 +5,8 @@ use Prim.Native.Nat.{_≤_}
 use native.Mathlib.Omega.{arith}
 use lib.ListN.{length-set}
 use Rattle.bus_windows.specs.Window.{SameLengths}
-use Rattle.bus_windows.proofs.choose.put.Statement.{statement}
-use Rattle.bus_windows.proofs.choose.put.Tie as tie
+use Rattle.bus_windows.proofs.fill.insert.Statement.{statement}
+use Rattle.bus_windows.proofs.fill.insert.Tie as tie
 
 abbrev Inv-loop : tie.InvT-loop
 Inv-loop uppers₀ lowers₀ used at t i₀ uppers lowers i = (i ≤ used) × SameLengths uppers₀ lowers₀ uppers lowers
@@ -27,8 +27,8 @@ returns c =
     let same = c .before .before .before .loop .inv .1 in
     (omega arith, (simp length-set (same .0), simp length-set (same .1)))
 
-pub put-spec : {M : Type 1} → statement M
-put-spec =
+pub insert-spec : {M : Type 1} → statement M
+insert-spec =
     tie.close
     (tie.spec
     Inv-loop
