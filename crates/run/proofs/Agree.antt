@@ -14,7 +14,7 @@ use Rattle.rules.specs.Sizes.{Parts, givenOf}
 use Rattle.judge_spec.specs.Judged.{judgeOf}
 use Rattle.run_steps.specs.Setting.{machineIn}
 use Rattle.run_steps.proofs.Legal.{one-successor}
-use Rattle.run.proofs.Sound.{startOf, rowState, lastRow, sound}
+use Rattle.run.proofs.Sound.{startIn, rowState, lastRow, sound}
 
 module _ {m : Machine} {start : State} {k l : ℕ} {s t : ℕ → State} (one : StayingRun m start k s) (two : StayingRun m start l t) where
   -- a step has one next state
@@ -36,10 +36,10 @@ module _ (q u : Parts) (program : q .program ≡ u .program) (memory : q .memory
   same-machine : machineIn (givenOf q) ≡ machineIn (givenOf u)
   same-machine = ap₂ (λ (p m : List ℕ). machineIn (givenOf (record { program = p; memory = m; exec = []; ext = []; pc = 0; fp = 0 }))) program memory
 
-  same-start : startOf q ≡ startOf u
+  same-start : startIn q ≡ startIn u
   same-start = λ i. record { pc = pc i; fp = fp i }
 
-  one : StayingRun (machineIn (givenOf u)) (startOf u) (lastRow q) (rowState q)
+  one : StayingRun (machineIn (givenOf u)) (startIn u) (lastRow q) (rowState q)
   one = subst₂ (λ (m : Machine) (s : State). StayingRun m s (lastRow q) (rowState q)) same-machine same-start (sound q first)
 
   pub agree : (r : ℕ) → r ≤ lastRow q → r ≤ lastRow u → rowState q r ≡ rowState u r

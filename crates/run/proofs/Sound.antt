@@ -22,8 +22,8 @@ use Rattle.run.proofs.Words.{exec-words, fit, ext-table, some-rows}
 use Rattle.run.proofs.Memory.{memory-holds}
 
 -- the start that is handed in, and the state of a row
-abbrev pub startOf : Parts → State
-startOf q = record { pc = q .pc; fp = q .fp }
+abbrev pub startIn : Parts → State
+startIn q = record { pc = q .pc; fp = q .fp }
 
 abbrev pub rowState : Parts → ℕ → State
 rowState q r = stateOf (tablesOf q .exec r)
@@ -45,7 +45,7 @@ module _ (q : Parts) (s : Satisfies q) where
       (memory-holds (givenOf q) t (ext-table q s) (s .constraints .bus) r hr pushes)
 
   -- tables that satisfy the constraints are a run that stays
-  pub satisfied-run : StayingRun (machineIn (givenOf q)) (startOf q) (lastRow q) (rowState q)
+  pub satisfied-run : StayingRun (machineIn (givenOf q)) (startIn q) (lastRow q) (rowState q)
   satisfied-run =
       let some = some-rows q s in
       record {
@@ -55,5 +55,5 @@ module _ (q : Parts) (s : Satisfies q) where
       }
 
 -- an accepted table is one run
-pub sound : (q : Parts) → judgeOf q ≡ Accepted → StayingRun (machineIn (givenOf q)) (startOf q) (lastRow q) (rowState q)
+pub sound : (q : Parts) → judgeOf q ≡ Accepted → StayingRun (machineIn (givenOf q)) (startIn q) (lastRow q) (rowState q)
 sound q e = satisfied-run q (accepted-satisfies q e)

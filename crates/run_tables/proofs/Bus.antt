@@ -4,16 +4,16 @@ use mathlib.Core.Path.{_≡_, refl, sym, _∙_, ap, ap₂}
 use Prim.Native.Nat.{ℕ, zero, suc, _+_, _≤_, _<_}
 use native.Mathlib.Omega.{arith}
 use Rattle.rules.specs.Given.{Given}
-use Rattle.rules.specs.Bus.{Tuple, pulls, total, pushedTo, pulledTo}
+use Rattle.rules.specs.Bus.{Tuple, pulls, total, pushedTo, pulledTo, sameTuple, pulled}
 use Rattle.machine.specs.Machine.{State}
 use Rattle.tables.specs.Rows.{execRowOf}
 use Rattle.tables.specs.Groups.{lengthAt, stepRow, extRowOf, filled}
 use Rattle.run_steps.specs.Setting.{machineIn, Pushes}
 use Rattle.run_groups.proofs.Padding.{padding-pulls}
 use Rattle.run_tables.specs.Setting.{tabled}
-use Rattle.run_tables.proofs.Totals.{total-split, total-same, total-longer}
+use Rattle.rules.proofs.Totals.{counts-none, total-stays, total-split, total-same}
 use Rattle.run_tables.proofs.Places.{row-of, row-past}
-use Rattle.run_tables.proofs.Steps.{pulledBy, counts-none, step-balance}
+use Rattle.run_tables.proofs.Steps.{pulledBy, step-balance}
 
 abbrev pulledAt : Given → (ℕ → State) → ℕ → Tuple → ℕ → ℕ
 pulledAt g state height σ k = pulledBy σ (extRowOf (machineIn g) state 0 height k)
@@ -38,6 +38,6 @@ module _ (g : Given) (state : ℕ → State) (height extHeight : ℕ) (pushes : 
       → pushedTo g (tabled (machineIn g) state height extHeight) σ height ≡ pulledTo (tabled (machineIn g) state height extHeight) σ extHeight
   balanced-bus room =
       sym
-      (total-longer (pulledAt g state height σ) (filled (machineIn g) state height) extHeight room
-      (λ k past. counts-none σ _ _ (ap pulls (row-past (machineIn g) state height k past) ∙ padding-pulls (g .cell)))
+      (total-stays (pulledAt g state height σ) (filled (machineIn g) state height) extHeight room
+      (λ k past _. counts-none (sameTuple (pulled (extRowOf (machineIn g) state 0 height k)) σ) _ (ap pulls (row-past (machineIn g) state height k past) ∙ padding-pulls (g .cell)))
       ∙ pulled-below height (omega arith))

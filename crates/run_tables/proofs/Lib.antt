@@ -1,4 +1,3 @@
-pub mod Totals
 pub mod Places
 pub mod Steps
 pub mod Runs

@@ -10,7 +10,7 @@ use Rattle.rules.specs.Execution.{execRules}
 use Rattle.rules.specs.Extension.{extRules}
 use Rattle.rules.specs.Satisfies.{All, Constraints}
 use Rattle.run_groups.proofs.Pairs.{next-below}
-use Rattle.run_tables.proofs.Totals.{total-same}
+use Rattle.rules.proofs.Totals.{total-same}
 use Rattle.run_tables.proofs.Steps.{pulledBy, pushedBy}
 
 pub record SameRows (t u : Tables) : Type 0 where

@@ -1,10 +1,10 @@
 -- What a legal step gives: by its kind, a group whose rows meet the rules and pull what the step pushes, or no row and no push.
 -- Assumes nothing.
-use mathlib.Core.Path.{_≡_, refl, sym, _∙_, ap₂}
+use mathlib.Core.Path.{_≡_, sym, _∙_, ap₂}
 use mathlib.Core.Bool.{Bool, cond}
 use Prim.Native.Nat.{ℕ, _+_, _<_}
+use native.Mathlib.Nat.{zero-add}
 use native.Mathlib.Omega.{arith}
-use Rattle.word.proofs.Tests.{by-test}
 use Rattle.form.specs.declared.Instruction.{Instruction}
 use Rattle.form.specs.declared.Op.{Op}
 use Rattle.form.specs.declared.Kind.{Kind}
@@ -21,7 +21,7 @@ use Rattle.tables.specs.Groups.{lengthOf, lengthAt, stepRowBy, stepRow, groupRo
 use Rattle.run_steps.specs.Setting.{machineIn, stateOf, Fit, ExtensionHolds, MemoryHolds, PushesBy, Pushes}
 use Rattle.run_groups.proofs.Meaning.{RowWords}
 use Rattle.run_groups.proofs.Tabled.{Called, row-words, inside-rules, seam-rules, start-first, pulls-first, pulls-later, pulled-first}
-use Rattle.run_tables.proofs.Totals.{total-first}
+use Rattle.rules.proofs.Totals.{counts-none, total-stays}
 
 -- how often a row pushes or pulls a tuple
 abbrev pub counted : Tuple → Tuple → ℕ → ℕ
@@ -32,9 +32,6 @@ pulledBy σ y = counted σ (pulled y) (pulls y)
 
 abbrev pub pushedBy : Given → Tuple → Exec → ℕ
 pushedBy g σ x = counted σ (pushed (g .instruction (x .pc)) x) (pushes (g .instruction (x .pc)))
-
-pub counts-none : (σ τ : Tuple) (n : ℕ) → n ≡ 0 → counted σ τ n ≡ 0
-counts-none σ τ n e = by-test (λ (k : ℕ). k ≡ 0) (sameTuple τ σ) (λ _. e) (λ _. refl)
 
 -- an extension's group is one of a legal call
 abbrev CallsBy : Given → State → Kind → Type 0
@@ -109,18 +106,19 @@ module _ (g : Given) (s : State) where
 module _ (g : Given) (σ : Tuple) (i : Instruction) (x : Exec) where
   balance-by : (k : Kind) → PushesBy (machineIn g) (formAt (machineIn g) (stateOf x)) i x k
       → total (λ j. pulledBy σ (stepRowBy (machineIn g) (stateOf x) j k)) (lengthOf k) ≡ counted σ (pushed i x) (pushes i)
-  balance-by Add o = sym (counts-none σ (pushed i x) (pushes i) o)
-  balance-by Mul o = sym (counts-none σ (pushed i x) (pushes i) o)
-  balance-by Deref o = sym (counts-none σ (pushed i x) (pushes i) o)
-  balance-by Jump o = sym (counts-none σ (pushed i x) (pushes i) o)
+  balance-by Add o = sym (counts-none (sameTuple (pushed i x) σ) (pushes i) o)
+  balance-by Mul o = sym (counts-none (sameTuple (pushed i x) σ) (pushes i) o)
+  balance-by Deref o = sym (counts-none (sameTuple (pushed i x) σ) (pushes i) o)
+  balance-by Jump o = sym (counts-none (sameTuple (pushed i x) σ) (pushes i) o)
   balance-by (Extension op be n) o =
       let m = machineIn g in
       let f = formAt m (stateOf x) in
       let a = value m (stateOf x) (f .a) in
       let b = value m (stateOf x) (f .b) in
       let c = value m (stateOf x) (f .c) in
-      total-first (λ j. pulledBy σ (groupRow (g .cell) op be n a b c j)) n (o .some)
-      (λ j h. counts-none σ _ _ (pulls-later (g .cell) op be n a b c j h))
+      total-stays (λ j. pulledBy σ (groupRow (g .cell) op be n a b c j)) 1 n (o .some)
+      (λ j h _. counts-none (sameTuple (pulled (groupRow (g .cell) op be n a b c j)) σ) _ (pulls-later (g .cell) op be n a b c j h))
+      ∙ zero-add _
       ∙ ap₂ (counted σ) (pulled-first (g .cell) op be n a b c (o .most) ∙ sym (o .tuple)) (pulls-first (g .cell) op be n a b c ∙ sym (o .once))
 
 pub step-balance : (g : Given) (σ : Tuple) (s : State) → Pushes g (execRowOf (machineIn g) s)
