@@ -7,3 +7,4 @@ pub mod WordLaws
 pub mod ElementLaws
 pub mod Part
 pub mod Below
+pub mod Concatenated
