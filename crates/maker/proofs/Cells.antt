@@ -2,6 +2,7 @@
 -- Assumes nothing.
 use mathlib.Core.Path.{_≡_, refl, ap, ap₂}
 use mathlib.Core.Bool.{Bool, true, false}
+use mathlib.Core.List.{List}
 use Prim.Native.Nat.{ℕ, zero, suc, _+_, _-_, _*_, _/_, _%_, _≤_, _<_}
 use native.Mathlib.Omega.{arith}
 use borrow.Author.Tests.{lt-ltb, le-ltb}
@@ -56,13 +57,13 @@ module _ (f g : ℕ → ℕ) (same : (k : ℕ) → k < 32 → f k ≡ g k) where
       (result-same (opPicked c) (bePicked c) (a % 16) (16 + a % 4) 0 (countPicked c) (omega arith) (omega arith))
 
 -- eight words, by number
-pub eight-at : (f : ℕ → ℕ) (j : ℕ) → j < 8 → getD (eight f) j 0 ≡ f j
-eight-at f zero h = refl
-eight-at f (suc zero) h = refl
-eight-at f (suc (suc zero)) h = refl
-eight-at f (suc (suc (suc zero))) h = refl
-eight-at f (suc (suc (suc (suc zero)))) h = refl
-eight-at f (suc (suc (suc (suc (suc zero))))) h = refl
-eight-at f (suc (suc (suc (suc (suc (suc zero)))))) h = refl
-eight-at f (suc (suc (suc (suc (suc (suc (suc zero))))))) h = refl
-eight-at f (suc (suc (suc (suc (suc (suc (suc (suc j)))))))) h = absurd (omega arith)
+pub eight-at : (l : List ℕ) (j : ℕ) → j < 8 → getD (eight l) j 0 ≡ getD l j 0
+eight-at l zero h = refl
+eight-at l (suc zero) h = refl
+eight-at l (suc (suc zero)) h = refl
+eight-at l (suc (suc (suc zero))) h = refl
+eight-at l (suc (suc (suc (suc zero)))) h = refl
+eight-at l (suc (suc (suc (suc (suc zero))))) h = refl
+eight-at l (suc (suc (suc (suc (suc (suc zero)))))) h = refl
+eight-at l (suc (suc (suc (suc (suc (suc (suc zero))))))) h = refl
+eight-at l (suc (suc (suc (suc (suc (suc (suc (suc j)))))))) h = absurd (omega arith)

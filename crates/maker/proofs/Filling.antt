@@ -11,10 +11,11 @@ use lib.Seq.{length-take-le}
 use Rattle.word.specs.Bytes.{bytesOf}
 use Rattle.form.specs.declared.Instruction.{Instruction}
 use Rattle.maker.specs.Drawn.{Draws}
-use Rattle.maker.specs.Made.{kindPicked, made, halt, instructionMade, slotCells, cellOf}
-use Rattle.maker.specs.Inner.{cellIn, slotWords}
+use Rattle.maker.specs.Made.{kindPicked, made, jumpTo, instructionMade, slotCells, cellOf}
+use Rattle.maker.specs.Inner.{cellIn, eight}
 use Rattle.maker.specs.Bytes.{wordBytes, instructionWords, instructionsOf, cellsOf}
-use Rattle.maker.proofs.Parts.{parts-length, parts-append, parts-same, parts-one, words-length, zero-parts, lent, behind, front-length}
+use Rattle.word.proofs.Concatenated.{parts-length, parts-append, parts-same, parts-one}
+use Rattle.maker.proofs.Parts.{words-length, zero-parts, lent, behind, front-length}
 use Rattle.maker.proofs.Cells.{drawn-cell, slot-cell, cell-past, slot-same, eight-at}
 
 module _ (d : Draws) (n : ℕ) where
@@ -47,7 +48,7 @@ module _ (d : Draws) (n : ℕ) where
       same : made i (kindPicked kind c) a c ≡ instructionMade d n i
       same = rw (lt-ltb i n h, ek, ea, ec)
 
-  last-instruction : halt n ≡ instructionMade d n n
+  last-instruction : jumpTo 1 n ≡ instructionMade d n n
   last-instruction = rw (le-ltb n n (omega arith))
 
   -- the first 32 cells
@@ -67,16 +68,16 @@ module _ (d : Draws) (n : ℕ) where
   -- the cells of slot i
   pub slot-row : (drawn : List ℕ) → ((k : ℕ) → k < 32 → getD drawn k 0 ≡ d .cell k) → (i kind a c : ℕ) → i < n
       → kind ≡ d .kind i → a ≡ d .a i → c ≡ d .c i → a < 32 → c < 32
-      → {row : List ℕ} → row ≡ wordBytes (slotWords (cellIn drawn) (kindPicked kind c) a c) → cellsOf d n (32 + 8 * i) ++ row ≡ cellsOf d n (32 + 8 * (i + 1))
+      → {row : List ℕ} → row ≡ wordBytes (eight (slotCells (cellIn drawn) (kindPicked kind c) a c)) → cellsOf d n (32 + 8 * i) ++ row ≡ cellsOf d n (32 + 8 * (i + 1))
   slot-row drawn same i kind a c h ek ea ec ha hc is =
       let e : 32 + 8 * (i + 1) ≡ 32 + 8 * i + 8 = omega arith in
       rw (e, is, parts-append (λ j. bytesOf (cellOf d n j)) (32 + 8 * i) 8)
       (ap (λ (l : List ℕ). cellsOf d n (32 + 8 * i) ++ l)
-      (parts-same (λ j. bytesOf (getD (slotWords (cellIn drawn) (kindPicked kind c) a c) j 0)) (λ j. bytesOf (cellOf d n (32 + 8 * i + j))) 8 (λ j b. ap bytesOf (one j b))))
+      (parts-same (λ j. bytesOf (getD (eight (slotCells (cellIn drawn) (kindPicked kind c) a c)) j 0)) (λ j. bytesOf (cellOf d n (32 + 8 * i + j))) 8 (λ j b. ap bytesOf (one j b))))
     where
-      one : (j : ℕ) → j < 8 → getD (slotWords (cellIn drawn) (kindPicked kind c) a c) j 0 ≡ cellOf d n (32 + 8 * i + j)
+      one : (j : ℕ) → j < 8 → getD (eight (slotCells (cellIn drawn) (kindPicked kind c) a c)) j 0 ≡ cellOf d n (32 + 8 * i + j)
       one j b =
-          eight-at (λ k. getD (slotCells (cellIn drawn) (kindPicked kind c) a c) k 0) j b ∙ ap (λ (l : List ℕ). getD l j 0) (slot-same (cellIn drawn) (d .cell) same kind a c ha hc)
+          eight-at (slotCells (cellIn drawn) (kindPicked kind c) a c) j b ∙ ap (λ (l : List ℕ). getD l j 0) (slot-same (cellIn drawn) (d .cell) same kind a c ha hc)
           ∙ rw (ek, ea, ec) (sym (slot-cell d n i j h b))
 
   pub slot-next : (t s row : List ℕ) (i end : ℕ) → s ≡ cellsOf d n (32 + 8 * i) ++ drop (128 + 32 * i) t → end ≡ 128 + 32 * (i + 1)
@@ -99,7 +100,7 @@ module _ (d : Draws) (n : ℕ) where
 
   -- the last instruction, and the bytes past the slots, end the buffers
   module _ (t s row : List ℕ) where
-    pub program-ended : s ≡ instructionsOf d n n ++ drop (48 * n) t → length t ≡ 48 * (n + 1) → row ≡ wordBytes (instructionWords (halt n))
+    pub program-ended : s ≡ instructionsOf d n n ++ drop (48 * n) t → length t ≡ 48 * (n + 1) → row ≡ wordBytes (instructionWords (jumpTo 1 n))
         → take (48 * n) s ++ (row ++ drop (length s - 48 * n) (drop (48 * n) s)) ≡ instructionsOf d n (n + 1)
     program-ended was sized is =
         let kept = program-kept t n was (omega arith) in

@@ -18,8 +18,8 @@ use Rattle.form.specs.declared.Op.{Op}
 use Rattle.form.specs.declared.Op.the-variants.{Add, Mul, Peq}
 use Rattle.form.proofs.Cases.{by-test}
 use Rattle.machine.specs.Extension.{result}
-use Rattle.maker.specs.Made.{kindPicked, opPicked, bePicked, countPicked}
-use Rattle.maker.specs.Inner.{slotWords}
+use Rattle.maker.specs.Made.{kindPicked, slotCells, opPicked, bePicked, countPicked}
+use Rattle.maker.specs.Inner.{eight}
 
 -- what holds of the five kinds holds of the one that is picked
 pub by-kind : (P : Kind → Type 0) (kind c : ℕ) → P kinds.Add → P kinds.Mul → P kinds.Deref → P kinds.Jump
@@ -48,7 +48,7 @@ past e is j h = List·getD-eq-default e 0 {n = j} (omega (arith, is .five-long))
 
 pub slot-extension : (cell : ℕ → ℕ) (kind a c : ℕ) → 4 ≤ kind
     → (let e = result cell (opPicked c) (bePicked c) (a % 16) (16 + a % 4) 0 (countPicked c) in
-    e ⟨ 0 ⟩ ∷ e ⟨ 1 ⟩ ∷ e ⟨ 2 ⟩ ∷ e ⟨ 3 ⟩ ∷ e ⟨ 4 ⟩ ∷ 0 ∷ 0 ∷ 0 ∷ [] ≡ slotWords cell (kindPicked kind c) a c)
+    e ⟨ 0 ⟩ ∷ e ⟨ 1 ⟩ ∷ e ⟨ 2 ⟩ ∷ e ⟨ 3 ⟩ ∷ e ⟨ 4 ⟩ ∷ 0 ∷ 0 ∷ 0 ∷ [] ≡ eight (slotCells cell (kindPicked kind c) a c))
 slot-extension cell kind a c h =
     let e = result cell (opPicked c) (bePicked c) (a % 16) (16 + a % 4) 0 (countPicked c) in
     let is = result-element cell (opPicked c) (bePicked c) (a % 16) (16 + a % 4) 0 (countPicked c) in

@@ -1,39 +1,15 @@
 -- A buffer filled from its front, a part at a time, each through its own bytes.
 -- Assumes nothing.
-use mathlib.Core.Path.{_≡_, refl, sym, ap, ap₂, _∙_}
-use mathlib.Core.List.{List, _++_, append-assoc, append-nil}
+use mathlib.Core.Path.{_≡_, refl, sym, ap, _∙_}
+use mathlib.Core.List.{List, _++_, append-assoc}
 use Prim.Native.Nat.{ℕ, zero, suc, _+_, _-_, _*_, _≤_, _<_}
-use native.Mathlib.Nat.{add-zero, mul-zero, mul-suc}
-use native.Mathlib.Numerals.{add-one}
 use native.Mathlib.Omega.{arith}
 use borrow.Author.Tests.{le-leb}
 use lib.ListN.{length, take, drop, getD, replicate, length-append, length-drop, replicate-append-replicate}
-use lib.Seq.{take-at, drop-at, drop-drop, length-take-le}
+use lib.Seq.{take-at, drop-at, drop-drop}
 use Rattle.word.specs.Bytes.{bytesOf, withWord, concatenated}
+use Rattle.word.proofs.Concatenated.{parts-length, parts-one}
 use Rattle.maker.specs.Bytes.{wordBytes}
-
-module _ (part : ℕ → List ℕ) where
-  pub parts-length : (size : ℕ) → ((k : ℕ) → length (part k) ≡ size) → (n : ℕ) → length (concatenated part n) ≡ size * n
-  unfolding concatenated
-  parts-length size each zero = sym (mul-zero size)
-  parts-length size each (suc n) =
-      length-append (concatenated part n) (part n) ∙ ap₂ _+_ (parts-length size each n) (each n) ∙ sym (mul-suc size n)
-
-  pub parts-append : (k n : ℕ) → concatenated part (k + n) ≡ concatenated part k ++ concatenated (λ j. part (k + j)) n
-  unfolding concatenated
-  parts-append k zero = rw (add-zero k) (sym (append-nil (concatenated part k)))
-  parts-append k (suc n) =
-      let e : k + suc n ≡ suc (k + n) = omega arith in
-      rw (e, parts-append k n) (append-assoc (concatenated part k) (concatenated (λ j. part (k + j)) n) (part (k + n)))
-
-  pub parts-same : (other : ℕ → List ℕ) (n : ℕ) → ((j : ℕ) → j < n → part j ≡ other j) → concatenated part n ≡ concatenated other n
-  unfolding concatenated
-  parts-same other zero h = refl
-  parts-same other (suc n) h = ap₂ _++_ (parts-same other n (λ j b. h j (omega arith))) (h n (omega arith))
-
-  pub parts-one : (k : ℕ) → concatenated part (k + 1) ≡ concatenated part k ++ part k
-  unfolding concatenated
-  parts-one k = rw (add-one k)
 
 -- four bytes for each word
 pub words-length : (words : List ℕ) → length (wordBytes words) ≡ 4 * length words
@@ -53,11 +29,6 @@ pub lent : (t front row : List ℕ) (at end : ℕ) → length front ≡ at → a
 lent t front row at end f low =
     let e : at + (end - at) ≡ end = omega arith in
     rw (take-at front (drop at t) at f, drop-at front (drop at t) at f, drop-drop (end - at) at t, e) (sym (append-assoc front row (drop end t)))
-
-pub part-length : (t : List ℕ) (at size : ℕ) → at + size ≤ length t → length (take (at + size - at) (drop at t)) ≡ size
-part-length t at size h =
-    let e : at + size - at ≡ size = omega arith in
-    rw e (length-take-le size (drop at t) (omega (arith, length-drop at t)))
 
 -- what stands behind the front is what stood there
 pub behind : (t front : List ℕ) (at k : ℕ) → length front ≡ at → at ≤ k → drop k (front ++ drop at t) ≡ drop k t

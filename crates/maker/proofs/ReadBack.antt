@@ -1,14 +1,11 @@
 -- What is read from the made buffers: each cell, and each instruction; and that every word of theirs is below p.
 -- Assumes nothing.
-use mathlib.Core.Path.{_≡_, refl, ap, _∙_}
-use mathlib.Core.Logic.{⊎-elim}
-use mathlib.Core.List.{List}
-use Prim.Native.Nat.{ℕ, zero, suc, _+_, _*_, _/_, _%_, _^_, _≤_, _<_}
-use native.Mathlib.Nat.{add-zero, add-assoc, not-suc-le-zero, le-of-suc-le-suc, eq-or-lt-of-le, mul-suc, mul-le-mul-left}
+use mathlib.Core.Path.{_≡_, refl, _∙_}
+use Prim.Native.Nat.{ℕ, _+_, _*_, _/_, _%_, _^_, _≤_, _<_}
+use native.Mathlib.Nat.{add-zero}
 use native.Mathlib.Omega.{arith}
 use lib.Dec.{lit<}
-use lib.ListN.{length, getD, List·getD-append}
-use lib.Seq.{getD-append-add}
+use lib.ListN.{getD}
 use Rattle.word.specs.Word.{IsWord}
 use Rattle.word.specs.Bytes.{wordAt, bytesOf, concatenated}
 use Rattle.word.proofs.FourBytes.{read-bytes}
@@ -17,29 +14,9 @@ use Rattle.label.specs.declared.Recipe.{Recipe}
 use Rattle.maker.specs.Drawn.{drawsOf}
 use Rattle.maker.specs.Made.{instructionMade, cellOf}
 use Rattle.maker.specs.Bytes.{wordBytes, instructionWords, programOf, memoryOf}
-use Rattle.maker.proofs.Parts.{parts-length, words-length}
+use Rattle.word.proofs.Concatenated.{word-in}
+use Rattle.maker.proofs.Parts.{words-length}
 use Rattle.maker.proofs.WellFormed.{drawable, program-words, cell-word}
-
-module _ (part : ℕ → List ℕ) (size : ℕ) (each : (k : ℕ) → length (part k) ≡ size) where
-  -- byte j of part k
-  byte-at : (n k j : ℕ) → k < n → j < size → getD (concatenated part n) (size * k + j) 0 ≡ getD (part k) j 0
-  unfolding concatenated
-  byte-at zero k j h b = absurd (not-suc-le-zero h)
-  byte-at (suc n) k j h b =
-      ⊎-elim
-      (λ (e : k ≡ n).
-      rw (e, ← parts-length part size each n) (getD-append-add (concatenated part n) (part n) j 0))
-      (λ (l : k < n).
-      List·getD-append (concatenated part n) (part n) 0 (size * k + j)
-      (omega (arith, parts-length part size each n, mul-le-mul-left size l, mul-suc size k))
-      ∙ byte-at n k j l b)
-      (eq-or-lt-of-le (le-of-suc-le-suc h))
-
-  word-in : (n k j : ℕ) → k < n → j + 3 < size → wordAt (concatenated part n) (size * k + j) ≡ wordAt (part k) j
-  word-in n k j h b = rw (byte-at n k j h (omega arith), next 1 (omega arith), next 2 (omega arith), next 3 (omega arith))
-    where
-      next : (i : ℕ) → j + i < size → getD (concatenated part n) (size * k + j + i) 0 ≡ getD (part k) (j + i) 0
-      next i l = ap (λ (m : ℕ). getD (concatenated part n) m 0) (add-assoc (size * k) j i) ∙ byte-at n k (j + i) h l
 
 -- word k of words
 word-of : (w : ℕ → ℕ) (n k : ℕ) → k < n → IsWord (w k) → wordAt (concatenated (λ j. bytesOf (w j)) n) (4 * k) ≡ w k

@@ -37,9 +37,12 @@ kindPicked kind c =
     (cond (eqb kind 3) Jump
     (Extension (opPicked c) (bePicked c) (countPicked c)))))
 
--- ADD, MUL: cells a and c into cell T
--- DEREF: α = T, β = 0, C reads cell T + 1
--- JUMP: immediate condition c modulo 2, immediate dest i + 1, frame fp + 0
+-- immediate condition and dest, frame fp + 0
+abbrev pub jumpTo : ℕ → ℕ → Instruction
+jumpTo condition dest =
+    record { jump = 1; fa = 1; a = condition; fb = 1; b = dest; fpc = 1; c = 0; fc = 0; fpab = 0; mul = 0; aux = 0; «data» = 0 }
+
+-- ADD, MUL: cells a and c into cell T. DEREF: α = T, β = 0, C reads cell T + 1. JUMP: condition c modulo 2, dest i + 1
 -- extension, all immediate: A = a mod 16, B = 16 + a mod 4, C = T
 abbrev pub made : ℕ → Kind → ℕ → ℕ → Instruction
 made i Add a c =
@@ -48,15 +51,9 @@ made i Mul a c =
     record { mul = 1; a = a; b = slot i; c = c; fa = 0; fb = 0; fc = 0; fpc = 0; fpab = 0; jump = 0; aux = 0; «data» = 0 }
 made i Deref a c =
     record { aux = 2; a = slot i; fb = 1; b = 0; c = slot i + 1; fa = 0; fc = 0; fpc = 0; fpab = 0; mul = 0; jump = 0; «data» = 0 }
-made i Jump a c =
-    record { jump = 1; fa = 1; a = c % 2; fb = 1; b = i + 1; fpc = 1; c = 0; fc = 0; fpab = 0; mul = 0; aux = 0; «data» = 0 }
+made i Jump a c = jumpTo (c % 2) (i + 1)
 made i (Extension op be n) a c =
     record { «data» = dataWord op be n; fa = 1; a = a % 16; fb = 1; b = 16 + a % 4; fc = 1; c = slot i; fpc = 0; fpab = 0; mul = 0; jump = 0; aux = 0 }
-
--- instruction n jumps to itself: condition 1, dest n, frame fp + 0
-abbrev pub halt : ℕ → Instruction
-halt n =
-    record { jump = 1; fa = 1; a = 1; fb = 1; b = n; fpc = 1; c = 0; fc = 0; fpab = 0; mul = 0; aux = 0; «data» = 0 }
 
 -- the cells from T on: ADD and MUL give cell T, DEREF cells T and T + 1, an extension five
 abbrev pub slotCells : (ℕ → ℕ) → Kind → ℕ → ℕ → List ℕ
@@ -67,8 +64,9 @@ slotCells cell Jump a c = []
 slotCells cell (Extension op be n) a c = result cell op be (a % 16) (16 + a % 4) 0 n
 
 module _ (d : Draws) where
+  -- instruction n jumps to itself: condition 1, dest n
   abbrev pub instructionMade : ℕ → ℕ → Instruction
-  instructionMade n i = cond (ltb i n) (made i (kindPicked (d .kind i) (d .c i)) (d .a i) (d .c i)) (halt n)
+  instructionMade n i = cond (ltb i n) (made i (kindPicked (d .kind i) (d .c i)) (d .a i) (d .c i)) (jumpTo 1 n)
 
   -- cell j of slot i
   abbrev pub slotCell : ℕ → ℕ → ℕ

@@ -11,8 +11,8 @@ ghost use mathlib.Core.List.{_++_};
 ghost use Prim.Native.Nat.{_+_, _*_, _/_, _%_, _≤_, _<_};
 ghost use lib.ListN.{length, drop, replicate};
 ghost use Rattle.maker.specs.Drawn.{drawsOf};
-ghost use Rattle.maker.specs.Made.{kindPicked, made};
-ghost use Rattle.maker.specs.Inner.{cellIn, slotWords};
+ghost use Rattle.maker.specs.Made.{kindPicked, made, slotCells};
+ghost use Rattle.maker.specs.Inner.{cellIn, eight};
 ghost use Rattle.maker.specs.Bytes.{instructionWords, wordBytes, instructionsOf, cellsOf};
 
 // Words, into as many bytes.
@@ -42,7 +42,7 @@ fn put_one(cells: &[u32; 32], i: u32, drawn: Three, instruction: &mut [u8], slot
     requires { ⌜ (i ≤ 124) × (drawn .a < 32) × (drawn .c < 32) × (length (now instruction) ≡ 48) × (length (now slot) ≡ 32) ⌝ }
     ensures { λ _. ⌜
         (now (instruction .exit) ≡ wordBytes (instructionWords (made i (kindPicked (drawn .kind) (drawn .c)) (drawn .a) (drawn .c))))
-        × (now (slot .exit) ≡ wordBytes (slotWords (cellIn (now (cells .entry))) (kindPicked (drawn .kind) (drawn .c)) (drawn .a) (drawn .c)))
+        × (now (slot .exit) ≡ wordBytes (eight (slotCells (cellIn (now (cells .entry))) (kindPicked (drawn .kind) (drawn .c)) (drawn .a) (drawn .c))))
         ⌝ }
 {
     let words = made_words(i, drawn.kind, drawn.a, drawn.c);

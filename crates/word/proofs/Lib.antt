@@ -8,3 +8,4 @@ pub mod ElementLaws
 pub mod Part
 pub mod Tests
 pub mod Below
+pub mod Concatenated

@@ -8,10 +8,11 @@ use borrow.Author.Needs.{needs}
 use lib.Seq.{length-take-le}
 use lib.ListN.{length, drop}
 use Rattle.word.specs.Bytes.{concatenated}
+use Rattle.word.proofs.Concatenated.{lent-length}
 use Rattle.maker.proofs.Filling.{program-kept, cells-kept, instruction-next, made-row, cells-begun, first-length, slot-row, slot-next}
 use Rattle.maker.specs.Bytes.{instructionsOf, cellsOf}
 use Rattle.maker.proofs.Drawing.{kind-drawn, a-drawn, c-drawn, after-three}
-use Rattle.maker.proofs.Parts.{part-length, front-length, behind}
+use Rattle.maker.proofs.Parts.{front-length, behind}
 use Rattle.maker.specs.Drawn.{stateAfter, drawsOf}
 use Rattle.maker.proofs.write.put_all.Statement.{statement}
 use Rattle.maker.proofs.write.put_all.Tie as tie
@@ -52,7 +53,7 @@ put-one-requires : tie.Need-put-one-requires Inv-loop μ-loop
 put-one-requires c κs =
     let l = c .before .before .before .before .before .loop in
     let e = c .before .before .before .draw-three .ensures in
-    (omega arith, omega (arith, e .1), omega (arith, e .2), part-length (l .program) (48 * l .i) 48 (omega arith), part-length (l .memory) (128 + 32 * l .i) 32 (omega arith))
+    (omega arith, omega (arith, e .1), omega (arith, e .2), lent-length (l .program) (48 * l .i) 48 (omega arith), lent-length (l .memory) (128 + 32 * l .i) 32 (omega arith))
 
 loop-again : tie.Need-loop-again Inv-loop μ-loop
 loop-again c =
