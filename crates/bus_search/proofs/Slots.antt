@@ -14,7 +14,7 @@ use Rattle.bus_tuples.proofs.Tuples.{same-tuple}
 use Rattle.bus_search.specs.Marks.{isMarked}
 use Rattle.bus_search.specs.Slots.{tupleAt, stepped, descended, placeOf, slotOf}
 
-same-self : (σ : Tuple) → sameTuple σ σ ≡ true
+pub same-self : (σ : Tuple) → sameTuple σ σ ≡ true
 same-self σ =
     rw (eq-eqb (σ .aux) (σ .aux) refl, eq-eqb (σ .left) (σ .left) refl, eq-eqb (σ .right) (σ .right) refl, eq-eqb (σ .out) (σ .out) refl)
 

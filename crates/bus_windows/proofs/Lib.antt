@@ -1,2 +1,3 @@
 pub mod Joined
 pub mod Windows
+pub mod Balance

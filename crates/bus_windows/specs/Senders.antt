@@ -11,6 +11,13 @@ use Rattle.bus_windows.specs.declared.Tally.{Tally}
 use Rattle.bus_windows.specs.declared.Looked.{Looked}
 use Rattle.bus_windows.specs.declared.Looked.the-variants.{Refused, Next}
 
+-- how often a row pushes, and pulls
+abbrev pub pushTimes : Given → Tables → ℕ → ℕ
+pushTimes g t r = pushes (instructionOf g t r)
+
+abbrev pub pullTimes : Tables → ℕ → ℕ
+pullTimes t k = pulls (t .ext k)
+
 -- a tuple, how often it is pushed, and how often it is pulled
 pub record Sending : Type 0 where
   pub tuple : Tuple
@@ -18,10 +25,10 @@ pub record Sending : Type 0 where
   pub minus : ℕ
 
 abbrev pub pushSent : Given → Tables → ℕ → Sending
-pushSent g t r = record { tuple = pushed (instructionOf g t r) (t .exec r); plus = pushes (instructionOf g t r); minus = 0 }
+pushSent g t r = record { tuple = pushed (instructionOf g t r) (t .exec r); plus = pushTimes g t r; minus = 0 }
 
 abbrev pub pullSent : Tables → ℕ → Sending
-pullSent t k = record { tuple = pulled (t .ext k); plus = 0; minus = pulls (t .ext k) }
+pullSent t k = record { tuple = pulled (t .ext k); plus = 0; minus = pullTimes t k }
 
 -- sender j: execution row j, and after the last of those extension row j - H
 unfoldable pub sendingOf : Given → Tables → ℕ → Sending

@@ -1,10 +1,13 @@
 // The bus where pushes and pulls stand in different orders, or don't match: counted in windows, up to the first sender that is unequal.
 mod fill;
 mod sender;
+mod totals;
 mod window;
 
 use answer::Answer;
 use bus_tuples::Sent;
+use totals::pull_total;
+use totals::push_total;
 use window::first_unequal;
 ghost use mathlib.Core.Path.{_≡_};
 ghost use mathlib.Core.List.{[]};
@@ -46,6 +49,10 @@ pub fn count_bus(program: &[u8], exec: &[u8], ext: &[u8]) -> Answer
             part: 3,
             row: r as u32,
         };
+    }
+    // Where no push is unequal and as much is pulled as is pushed, no pull is.
+    if push_total(program, exec) == pull_total(ext) {
+        return Answer::Accepted;
     }
     let n = h + ext.len() / 120;
     let j = first_unequal(program, exec, ext, h, n);

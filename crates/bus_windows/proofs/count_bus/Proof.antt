@@ -6,7 +6,9 @@ use mathlib.Core.List.{[]}
 use Prim.Native.Nat.{_-_}
 use native.Mathlib.Omega.{arith}
 use Rattle.rules.specs.Sizes.{given, tables}
-use Rattle.judge_spec.specs.Judged.{firstPull}
+use Rattle.judge_spec.specs.Judged.{pushBalanced, pullBalanced, firstPush, firstPull}
+use Rattle.judge_spec.proofs.FirstLaws.{first-past, first-none}
+use Rattle.bus_windows.proofs.Balance.{totals-balance}
 use Rattle.bus_windows.proofs.Joined.{first-push, first-pull}
 use Rattle.bus_windows.proofs.count_bus.Statement.{statement}
 use Rattle.bus_windows.proofs.count_bus.Tie as tie
@@ -19,32 +21,48 @@ returns c =
     let t = tables (start .args .exec .now) (start .args .ext .now) in
     rw (sym (found .ensures ∙ first-push g t), lt-ltb _ _ (c .if1 .taken))
 
+returns-2 : tie.Need-returns-2
+returns-2 c =
+    let start = c .before .before .before .before .before .before .before .before in
+    let found = c .before .before .before .before .first-unequal in
+    let past = c .before .before .before .if1 .left in
+    let g = given (start .args .program .now) [] in
+    let t = tables (start .args .exec .now) (start .args .ext .now) in
+    let push : firstPush g t ≡ found .result = sym (found .ensures ∙ first-push g t) in
+    let all = first-past (pushBalanced g t) (t .height) (omega (arith, push)) in
+    let same = sym (c .before .before .push-total .ensures) ∙ c .if2 .taken ∙ c .before .pull-total .ensures in
+    let none : firstPull g t ≡ t .extHeight = first-none (pullBalanced g t) (t .extHeight) .1 (λ k h. totals-balance g t all same k) in
+    rw (push, le-ltb _ _ past, none, le-ltb (t .extHeight) (t .extHeight) (omega arith))
+
 sub-t12 : tie.Need-sub-t12
 sub-t12 c =
-    let start = c .before .before .before .before .before .before .before in
+    let start = c .before .before .before .before .before .before .before .before .before .before in
     let g = given (start .args .program .now) [] in
     let t = tables (start .args .exec .now) (start .args .ext .now) in
     omega (arith, c .before .first-unequal2 .ensures ∙ first-pull g t)
 
-returns-2 : tie.Need-returns-2
-returns-2 c =
-    let start = c .before .before .before .before .before .before .before in
-    let found = c .before .before .before .first-unequal in
-    let pull = c .before .first-unequal2 in
-    let g = given (start .args .program .now) [] in
-    let t = tables (start .args .exec .now) (start .args .ext .now) in
-    let k : firstPull g t ≡ pull .result - t .height = omega (arith, pull .ensures ∙ first-pull g t) in
-    rw (sym (found .ensures ∙ first-push g t), le-ltb _ _ (c .before .before .if1 .left), k, lt-ltb (pull .result - t .height) (t .extHeight) (omega (arith, k, pull .ensures ∙ first-pull g t)))
-
 returns-3 : tie.Need-returns-3
 returns-3 c =
-    let start = c .before .before .before .before .before .before .before in
-    let found = c .before .before .before .first-unequal in
-    let pull = c .before .first-unequal2 in
+    let start = c .before .before .before .before .before .before .before .before .before .before in
+    let found = c .before .before .before .before .before .before .first-unequal in
+    let past = c .before .before .before .before .before .if1 .left in
     let g = given (start .args .program .now) [] in
     let t = tables (start .args .exec .now) (start .args .ext .now) in
+    let pull = c .before .first-unequal2 in
+    let pull-is = pull .ensures ∙ first-pull g t in
+    let k : firstPull g t ≡ pull .result - t .height = omega (arith, pull-is) in
+    rw (sym (found .ensures ∙ first-push g t), le-ltb _ _ past, k, lt-ltb (pull .result - t .height) (t .extHeight) (omega (arith, pull-is)))
+
+returns-4 : tie.Need-returns-4
+returns-4 c =
+    let start = c .before .before .before .before .before .before .before .before .before .before in
+    let found = c .before .before .before .before .before .before .first-unequal in
+    let past = c .before .before .before .before .before .if1 .left in
+    let g = given (start .args .program .now) [] in
+    let t = tables (start .args .exec .now) (start .args .ext .now) in
+    let pull = c .before .first-unequal2 in
     let k : firstPull g t ≡ pull .result - t .height = omega (arith, pull .ensures ∙ first-pull g t) in
-    rw (sym (found .ensures ∙ first-push g t), le-ltb _ _ (c .before .before .if1 .left), k, le-ltb (pull .result - t .height) (t .extHeight) (omega arith))
+    rw (sym (found .ensures ∙ first-push g t), le-ltb _ _ past, k, le-ltb (pull .result - t .height) (t .extHeight) (omega arith))
 
 pub count-bus-spec : {M : Type 1} → statement M
 count-bus-spec =
@@ -53,9 +71,12 @@ count-bus-spec =
     (λ c κs. search needs)
     (λ c. search needs)
     returns
+    (λ c κs. search needs)
+    (λ c κs. search needs)
+    returns-2
     (λ c. search needs)
     (λ c κs. search needs)
     sub-t12
     (λ c. search needs)
-    returns-2
-    returns-3)
+    returns-3
+    returns-4)
