@@ -8,7 +8,7 @@ use borrow.Author.Tests.{eqb-true, eqb-false, eq-eqb, ne-eqb}
 use Rattle.rules.specs.Given.{Given, Tables, zero?}
 use Rattle.rules.specs.Bus.{Tuple, sameTuple, pushes, pulled, pulls, total, pushedTo, pulledTo, instructionOf, balanced}
 use Rattle.judge_spec.specs.Judged.{pushedAt}
-use Rattle.judge_spec.specs.Refusal.{Equal, PushEqual, PullEqual}
+use Rattle.judge_spec.specs.Refusal.{Equal, Pushes, Pulls}
 use Rattle.judge_spec.proofs.Cases.{both}
 
 -- a sum is 0, or one of its terms isn't
@@ -66,7 +66,9 @@ module _ (g : Given) (t : Tables) where
   row-fails n σ h e = rw (ne-eqb n 0 h) (ne-eqb (pushedTo g t σ (t .height)) (pulledTo t σ (t .extHeight)) e)
 
   -- every tuple is equal where every row's is
-  pub bus-equal : ((r : ℕ) → r < t .height → PushEqual g t r) → ((r : ℕ) → r < t .extHeight → PullEqual g t r) → (σ : Tuple) → Equal g t σ
+  pub bus-equal : ((r : ℕ) → r < t .height → Pushes g t r → Equal g t (pushedAt g t r))
+      → ((r : ℕ) → r < t .extHeight → Pulls g t r → Equal g t (pulled (t .ext r)))
+      → (σ : Tuple) → Equal g t σ
   bus-equal pushing pulling σ =
       total-cases (λ r. cond (sameTuple (pushedAt g t r) σ) (pushes (instructionOf g t r)) 0) (t .height) (Equal g t σ)
       (λ none-pushed.
