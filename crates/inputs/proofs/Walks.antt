@@ -1,6 +1,6 @@
 -- A loop that looks for the first failure: it is at i, and what is left of the search gives the whole answer.
 -- Assumes nothing.
-use mathlib.Core.Path.{_≡_, sym, _∙_, refl}
+use mathlib.Core.Path.{_≡_, sym, _∙_}
 use mathlib.Core.Bool.{Bool, true, false, _&&_}
 use Prim.Native.Nat.{ℕ, zero, suc, _+_, _-_, _≤_, _<_, zero-le}
 use native.Mathlib.Nat.{sub-zero, add-zero}
@@ -20,9 +20,6 @@ pub record Walk (passes : ℕ → Bool) (n answer i : ℕ) : Type 0 where
 
 pub begins : (passes : ℕ → Bool) (n : ℕ) → Walk passes n (first passes 0 n) 0
 begins passes n = record { within = zero-le; left = rw (sub-zero n) }
-
-pub begins-at : (passes : ℕ → Bool) (n i : ℕ) → i ≤ n → Walk passes n (first passes i (n - i)) i
-begins-at passes n i h = record { within = h; left = refl }
 
 module _ {passes : ℕ → Bool} {n answer i : ℕ} (walk : Walk passes n answer i) where
   pub goes-past : i < n → passes i ≡ true → Walk passes n answer (i + 1)

@@ -1,6 +1,5 @@
 // The rules of an extension row but 6 to 9 by plain comparisons, with no product of a gate: they say yes on nearly every row of an accepted table.
 // Where they say no the row may still be right.
-use crate::accumulation::accumulates;
 use judge_lookups::looks_up;
 use judge_lookups::looks_up_five;
 use rows::Ext;
@@ -42,7 +41,7 @@ fn all_bits(x: Ext) -> bool
 }
 
 // be + (1 - be)·5
-fn stride(be: u32) -> u32
+pub(crate) fn stride(be: u32) -> u32
     ensures { λ r. ⌜ r ≡ be +ₚ (1 -ₚ be) *ₚ 5 ⌝ }
 {
     if be == 0 {
@@ -81,7 +80,7 @@ fn followed(x: Ext, y: Ext) -> bool
 }
 
 // Whether these comparisons show that all rules but 6 to 9 hold.
-fn others_hold(memory: &[u8], x: Ext, y: Ext) -> bool
+pub(crate) fn others_hold(memory: &[u8], x: Ext, y: Ext) -> bool
     ensures { λ r. ⌜ (r ≡ true → extFails (now (memory .entry)) x y ≡ accumulatesThen x y (selected x) (compTail y) 0) ⌝ }
 {
     if !found(memory, x) {
@@ -91,14 +90,4 @@ fn others_hold(memory: &[u8], x: Ext, y: Ext) -> bool
         return false;
     }
     followed(x, y)
-}
-
-// Whether these comparisons and rules 6 to 9 show that all rules hold.
-pub(crate) fn ext_holds(memory: &[u8], x: Ext, y: Ext) -> bool
-    ensures { λ r. ⌜ (r ≡ true → extFails (now (memory .entry)) x y ≡ 0) ⌝ }
-{
-    if !others_hold(memory, x, y) {
-        return false;
-    }
-    accumulates(x, y, 0) == 0
 }

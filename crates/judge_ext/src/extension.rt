@@ -1,12 +1,11 @@
 // The rules of an extension row, by the polynomials.
 use crate::accumulation::accumulates;
+use crate::ext_quick::stride;
 use inputs::first_of;
 use judge_lookups::gated;
 use judge_lookups::looks_up;
 use judge_lookups::looks_up_five;
 use rows::Ext;
-use word::add;
-use word::mul;
 use word::sub;
 ghost use mathlib.Core.Path.{_≡_};
 ghost use Rattle.word.specs.Word.{_-ₚ_, _*ₚ_};
@@ -69,8 +68,7 @@ fn sames(inside: u32, x: Ext, y: Ext, rest: u32) -> u32
 fn steps(inside: u32, x: Ext, y: Ext) -> u32
     ensures { λ r. ⌜ r ≡ stepsThen inside x y 0 ⌝ }
 {
-    let stride = add(x.be, mul(sub(1, x.be), 5));
-    let a = gated(inside, sub(y.idxA, x.idxA), stride);
+    let a = gated(inside, sub(y.idxA, x.idxA), stride(x.be));
     let b = gated(inside, sub(y.idxB, x.idxB), 5);
     let last = gated(y.start, x.len, 1);
     first_of(15, a, first_of(16, b, first_of(17, last, 0)))

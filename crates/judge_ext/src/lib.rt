@@ -3,7 +3,8 @@ mod accumulation;
 mod ext_quick;
 mod extension;
 
-use ext_quick::ext_holds;
+use accumulation::accumulates;
+use ext_quick::others_hold;
 use extension::ext_computed;
 use rows::Ext;
 ghost use mathlib.Core.Path.{_≡_};
@@ -12,12 +13,13 @@ ghost use Rattle.rules.specs.Extension.{extRules};
 ghost use Rattle.rules.specs.Sizes.{given};
 ghost use Rattle.judge_spec.specs.First.{failing};
 
-// The first extension rule that fails on a row x paired with y, and 0 where all hold. Only where comparisons say no are the polynomials taken.
+// The first extension rule that fails on a row x paired with y, and 0 where all hold. Only rules 6 to 9
+// take the polynomials where comparisons show that the others hold.
 pub fn ext_failing(memory: &[u8], x: Ext, y: Ext) -> u32
     ensures { λ r. ⌜ r ≡ failing (extRules (given [] (now (memory .entry))) x y) ⌝ }
 {
-    if ext_holds(memory, x, y) {
-        return 0;
+    if others_hold(memory, x, y) {
+        return accumulates(x, y, 0);
     }
     ext_computed(memory, x, y)
 }

@@ -9,7 +9,7 @@ use Rattle.rules.specs.Bus.{Tuple, sameTuple, pushes, pulled, pulls, total, pus
 use Rattle.rules.proofs.Totals.{counts, total-cases}
 use Rattle.rules.proofs.Tuples.{same-tuple}
 use Rattle.judge_spec.specs.Judged.{pushedAt}
-use Rattle.judge_spec.specs.Refusal.{Equal, PushEqual, PullEqual}
+use Rattle.judge_spec.specs.Refusal.{Equal, Pushes, Pulls}
 
 module _ (g : Given) (t : Tables) where
   -- the test of a row that counts a tuple n times
@@ -38,7 +38,9 @@ module _ (g : Given) (t : Tables) where
   row-fails n σ h e = rw (ne-eqb n 0 h) (ne-eqb (pushedTo g t σ (t .height)) (pulledTo t σ (t .extHeight)) e)
 
   -- every tuple is equal where every row's is
-  pub bus-equal : ((r : ℕ) → r < t .height → PushEqual g t r) → ((r : ℕ) → r < t .extHeight → PullEqual g t r) → (σ : Tuple) → Equal g t σ
+  pub bus-equal : ((r : ℕ) → r < t .height → Pushes g t r → Equal g t (pushedAt g t r))
+      → ((r : ℕ) → r < t .extHeight → Pulls g t r → Equal g t (pulled (t .ext r)))
+      → (σ : Tuple) → Equal g t σ
   bus-equal pushing pulling σ =
       total-cases (λ r. cond (sameTuple (pushedAt g t r) σ) (pushes (instructionOf g t r)) 0) (t .height) (Equal g t σ)
       (λ none-pushed.

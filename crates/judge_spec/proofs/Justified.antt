@@ -1,25 +1,25 @@
 -- Every answer of the judge holds: no row, word or rule number is made up, and an acceptance is a proof that the tables satisfy the constraints.
--- PassedTwo from the last test to the first: given that the tests before passed, the answer from a test on is right.
+-- Read from the last test to the first: given that the tests before passed, the answer from a test on is right.
 use mathlib.Core.Path.{_≡_, refl}
 use mathlib.Core.Logic.{inl, inr}
 use mathlib.Core.Bool.{false, cond}
-use Prim.Native.Nat.{ℕ, suc, _<_}
+use Prim.Native.Nat.{ℕ, suc, _/_, _<_}
 use native.Mathlib.Omega.{arith}
 use lib.Dec.{T}
+use lib.ListN.{length}
 use Rattle.answer.specs.declared.Answer.{Answer}
-use Rattle.answer.specs.declared.Answer.the-variants.{Accepted, Size, Exec as ExecRefused, Extension, Bus}
-use Rattle.rules.specs.Given.{Given, Tables, next}
-use Rattle.rules.specs.Bus.{pushes, pulled, pulls, instructionOf}
+use Rattle.answer.specs.declared.Answer.the-variants.{Accepted, Size, Word, Instruction, Exec as ExecRefused, Extension, Bus}
+use Rattle.rules.specs.Given.{Given, Tables}
+use Rattle.rules.specs.Bus.{pulled}
 use Rattle.rules.specs.Sizes.{Parts, givenOf, tablesOf}
 use Rattle.rules.specs.Satisfies.{Words, Satisfies}
-use Rattle.judge_spec.specs.Judged.{words, execRulesAt, extRulesAt, pushedAt, judgeOf}
-use Rattle.judge_spec.specs.Refusal.{part, partFits, PassedTwo, PassedThree, PassedFour, PassedFive, PassedSix, PushEqual, PullEqual, Says}
+use Rattle.judge_spec.specs.Judged.{words, execFailing, extFailing, pushedAt, judgeOf}
+use Rattle.judge_spec.specs.Refusal.{part, partFits, PassedTwo, PassedThree, PassedFour, PassedFive, PassedSix, Equal, Pushes, Pulls, Says}
 use Rattle.judge_spec.proofs.PartNumbers.{one-more, every-from}
-use Rattle.judge_spec.proofs.Stages.{judgeBus, judgeExtension, judgeExecution, judgeStart, judgeProgram, judgeWords}
-use Rattle.judge_spec.proofs.RuleLaws.{exec-numbered, ext-numbered}
+use Rattle.judge_spec.proofs.Stages.{judgePulls, judgeBus, judgeExtension, judgeExecution, judgeStart, judgeProgram, judgeWords}
 use Rattle.judge_spec.proofs.BusLaws.{bus-equal}
-use Rattle.judge_spec.proofs.Cases.{chosen}
-use Rattle.judge_spec.proofs.StageCases.{words-cases, instructions-cases, start-cases, rows-cases, tuples-cases}
+use Rattle.judge_spec.proofs.Cases.{chosen, tested}
+use Rattle.judge_spec.proofs.StageReads.{words-read, instructions-read, exec-read, ext-read, push-read, pull-read, start-cases}
 
 module _ (q : Parts) where
   abbrev g : Given
@@ -29,8 +29,8 @@ module _ (q : Parts) where
   t = tablesOf q
 
   satisfied : PassedSix q
-      → ((r : ℕ) → r < t .height → PushEqual g t r)
-      → ((r : ℕ) → r < t .extHeight → PullEqual g t r)
+      → ((r : ℕ) → r < t .height → Pushes g t r → Equal g t (pushedAt g t r))
+      → ((r : ℕ) → r < t .extHeight → Pulls g t r → Equal g t (pulled (t .ext r)))
       → Satisfies q
   satisfied x pushing pulling =
       let s = x .five .four in
@@ -58,44 +58,38 @@ module _ (q : Parts) where
   from-bus : PassedSix q → Says q (judgeBus q)
   unfolding Says
   from-bus x =
-      tuples-cases _ (Says q) g t (λ r. pushes (instructionOf g t r)) (pushedAt g t) (t .height) (Bus 3)
+      tested (push-read g t) (t .height) (Bus 3) (judgePulls q) (Says q)
       (λ pushing.
-      tuples-cases Accepted (Says q) g t (λ r. pulls (t .ext r)) (λ r. pulled (t .ext r)) (t .extHeight) (Bus 4)
+      tested (pull-read g t) (t .extHeight) (Bus 4) Accepted (Says q)
       (λ pulling. satisfied x pushing pulling)
-      (λ r h before pulls-it bad.
-      inr (refl, record { six = x; pushes-equal = pushing; before = before; inside = h; pulling = pulls-it; bad = bad })))
-      (λ r h before pushes-it bad.
-      inl (refl, record { six = x; before = before; inside = h; pushing = pushes-it; bad = bad }))
+      (λ r h before bad. inr (refl, record { six = x; pushes-equal = pushing; before = before; inside = h; pulling = bad .0; bad = bad .1 })))
+      (λ r h before bad. inl (refl, record { six = x; before = before; inside = h; pushing = bad .0; bad = bad .1 }))
 
   from-extension : PassedFive q → Says q (judgeExtension q)
   unfolding Says
   from-extension x =
-      rows-cases _ (Says q) (extRulesAt g t) (t .extHeight) Extension
-      (λ r. ext-numbered g (t .ext r) (t .ext (next (t .extHeight) r)))
+      tested (ext-read g t) (t .extHeight) (λ r. Extension r (extFailing g t r)) (judgeBus q) (Says q)
       (λ all. from-bus (record { five = x; extension = all }))
       (λ r h before bad. record { five = x; before = before; inside = h; bad = bad })
 
   from-execution : PassedFour q → Says q (judgeExecution q)
   unfolding Says
   from-execution x =
-      rows-cases _ (Says q) (execRulesAt g t) (t .height) ExecRefused
-      (λ r.
-      exec-numbered g (t .exec r) (t .exec (next (t .height) r))
-      (instructionOf g t r))
+      tested (exec-read g t) (t .height) (λ r. ExecRefused r (execFailing g t r)) (judgeExtension q) (Says q)
       (λ all. from-extension (record { four = x; execution = all }))
       (λ r h before bad. record { four = x; before = before; inside = h; bad = bad })
 
   from-start : PassedThree q → Says q (judgeStart q)
   unfolding Says
   from-start x =
-      start-cases (judgeExecution q) (Says q) t (q .pc) (q .fp)
+      start-cases g t (q .pc) (q .fp) (judgeExecution q) (Says q)
       (λ a b. from-execution (record { three = x; start-pc = a; start-fp = b }))
       (λ bad. record { three = x; bad = bad })
 
   from-instructions : PassedTwo q → Says q (judgeProgram q)
   unfolding Says
   from-instructions x =
-      instructions-cases (judgeStart q) (Says q) g
+      tested (instructions-read g t) (g .count) Instruction (judgeStart q) (Says q)
       (λ all. from-start (record { two = x; instructions = all }))
       (λ i h before bad. record { two = x; before = before; inside = h; bad = bad })
 
@@ -105,7 +99,7 @@ module _ (q : Parts) where
       → ((m : ℕ) → m < n → Words (part q m)) → Says q (words n (part q n) then)
   unfolding Says
   from-words sized n then pass earlier =
-      words-cases then (Says q) n (part q n)
+      tested (words-read (part q n)) (length (part q n) / 4) (Word n) then (Says q)
       (λ w. pass (one-more (λ m. Words (part q m)) n earlier w))
       (λ k h before bad. record { sizes = sized; parts-before = earlier; before = before; inside = h; bad = bad })
 

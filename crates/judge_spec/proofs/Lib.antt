@@ -5,8 +5,7 @@ pub mod Lengths
 pub mod PartNumbers
 pub mod Stages
 pub mod BusLaws
-pub mod StageCases
+pub mod StageReads
 pub mod Justified
-pub mod StageLaws
 pub mod Only
 pub mod Exactly

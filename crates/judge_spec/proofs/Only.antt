@@ -1,23 +1,26 @@
 -- One answer alone holds of the parts, the judge's: where the tests before passed the judge's answer is the next test's, and that one refuses as said.
-use mathlib.Core.Path.{_≡_, sym, ap, _∙_}
+use mathlib.Core.Path.{_≡_, sym, ap, _∙_, subst}
 use mathlib.Core.Logic.{inl, inr}
 use mathlib.Core.Bool.{true≢false}
-use Prim.Native.Nat.{ℕ, zero, suc, _<_}
+use mathlib.Core.List.{List}
+use Prim.Native.Nat.{ℕ, zero, suc, _/_, _<_}
 use native.Mathlib.Omega.{arith}
 use lib.Dec.{T}
+use lib.ListN.{length}
 use Rattle.answer.specs.declared.Answer.{Answer}
 use Rattle.answer.specs.declared.Answer.the-variants.{Accepted, Size, Word, Instruction, Start, Exec as ExecRefused, Extension, Bus, Label, Stuck, Room, Open, Itself, Buffer}
-use Rattle.rules.specs.Given.{Given, Tables, next}
-use Rattle.rules.specs.Bus.{pushes, pulled, pulls, instructionOf}
+use Rattle.rules.specs.Given.{Given, Tables, Rule}
+use Rattle.rules.specs.Bus.{pulled}
 use Rattle.rules.specs.Sizes.{Parts, givenOf, tablesOf}
 use Rattle.rules.specs.Satisfies.{Words, Satisfies}
-use Rattle.judge_spec.specs.Judged.{execRulesAt, extRulesAt, pushedAt, judgeOf}
-use Rattle.judge_spec.specs.Refusal.{part, partFits, BadSize, BadWord, BadExec, BadExtension, BadPush, BadPull, PassedTwo, PassedThree, PassedFour, PassedFive, PassedSix, PushEqual, Says}
+use Rattle.judge_spec.specs.First.{failing}
+use Rattle.judge_spec.specs.Judged.{words, execRulesAt, execFailing, extRulesAt, extFailing, pushedAt, judgeOf}
+use Rattle.judge_spec.specs.Refusal.{FirstFailing, Equal, Pushes, part, partFits, BadSize, BadWord, BadExec, BadExtension, BadPush, BadPull, PassedTwo, PassedThree, PassedFour, PassedFive, PassedSix, Says}
 use Rattle.judge_spec.proofs.PartNumbers.{every}
 use Rattle.judge_spec.proofs.Stages.{judgePulls, judgeBus, judgeExtension, judgeExecution, judgeStart, judgeProgram, judgeWords}
-use Rattle.judge_spec.proofs.RuleLaws.{exec-numbered, ext-numbered}
-use Rattle.judge_spec.proofs.Cases.{passed, failed}
-use Rattle.judge_spec.proofs.StageLaws.{words-pass, words-fail, instructions-pass, instructions-fail, start-pass, start-fail, rows-pass, rows-fail, tuples-pass, tuples-fail}
+use Rattle.judge_spec.proofs.RuleLaws.{first-failing}
+use Rattle.judge_spec.proofs.Cases.{passed, failed, untouched, refusing}
+use Rattle.judge_spec.proofs.StageReads.{words-read, instructions-read, exec-read, ext-read, push-read, pull-read, start-pass, start-fail}
 
 module _ (q : Parts) where
   abbrev g : Given
@@ -31,57 +34,58 @@ module _ (q : Parts) where
   unfolding judgeOf
   sized s = passed (partFits q 1) _ _ (s 1) ∙ passed (partFits q 2) _ _ (s 2) ∙ passed (partFits q 3) _ _ (s 3) ∙ passed (partFits q 4) _ _ (s 4)
 
+  words-pass : (n : ℕ) (bytes : List ℕ) (then : Answer) → Words bytes → words n bytes then ≡ then
+  words-pass n bytes then = untouched (words-read bytes) (length bytes / 4) (Word n) then
+
+  at : (n : ℕ) (then : Answer) {k : ℕ} → BadWord q n k → words n (part q n) then ≡ Word n k
+  at n then {k} x = refusing (words-read (part q n)) (length (part q n) / 4) (Word n) then k (x .inside) (x .before) (x .bad)
+
   read : PassedTwo q → judgeOf q ≡ judgeProgram q
   read x =
       sized (x .sizes)
-      ∙ words-pass _ 1 (q .program) (x .words 1)
-      ∙ words-pass _ 2 (q .memory) (x .words 2)
-      ∙ words-pass _ 3 (q .exec) (x .words 3)
-      ∙ words-pass _ 4 (q .ext) (x .words 4)
+      ∙ words-pass 1 (q .program) _ (x .words 1)
+      ∙ words-pass 2 (q .memory) _ (x .words 2)
+      ∙ words-pass 3 (q .exec) _ (x .words 3)
+      ∙ words-pass 4 (q .ext) _ (x .words 4)
 
   formed : PassedThree q → judgeOf q ≡ judgeStart q
-  formed x = read (x .two) ∙ instructions-pass _ g (x .instructions)
+  formed x = read (x .two) ∙ untouched (instructions-read g t) (g .count) Instruction (judgeStart q) (x .instructions)
 
   started : PassedFour q → judgeOf q ≡ judgeExecution q
-  started x = formed (x .three) ∙ start-pass _ t (q .pc) (q .fp) (x .start-pc) (x .start-fp)
+  started x = formed (x .three) ∙ start-pass g t (q .pc) (q .fp) (judgeExecution q) (x .start-pc) (x .start-fp)
 
   executed : PassedFive q → judgeOf q ≡ judgeExtension q
-  executed x =
-      started (x .four) ∙ rows-pass _ (execRulesAt g t) (t .height) ExecRefused (x .execution)
+  executed x = started (x .four) ∙ untouched (exec-read g t) (t .height) (λ r. ExecRefused r (execFailing g t r)) (judgeExtension q) (x .execution)
 
   extended : PassedSix q → judgeOf q ≡ judgeBus q
-  extended x =
-      executed (x .five) ∙ rows-pass _ (extRulesAt g t) (t .extHeight) Extension (x .extension)
+  extended x = executed (x .five) ∙ untouched (ext-read g t) (t .extHeight) (λ r. Extension r (extFailing g t r)) (judgeBus q) (x .extension)
 
-  pushed-all : PassedSix q → ((r : ℕ) → r < t .height → PushEqual g t r) → judgeOf q ≡ judgePulls q
-  pushed-all x all =
-      extended x
-      ∙ tuples-pass _ g t (λ r. pushes (instructionOf g t r)) (pushedAt g t) (t .height) (Bus 3) all
+  pushed-all : PassedSix q → ((r : ℕ) → r < t .height → Pushes g t r → Equal g t (pushedAt g t r)) → judgeOf q ≡ judgePulls q
+  pushed-all x all = extended x ∙ untouched (push-read g t) (t .height) (Bus 3) (judgePulls q) all
 
   push-refused : (r : ℕ) → BadPush q r → judgeOf q ≡ Bus 3 r
-  push-refused r x =
-      extended (x .six)
-      ∙ tuples-fail _ g t (λ r. pushes (instructionOf g t r)) (pushedAt g t) (t .height) (Bus 3) r (x .inside) (x .before) (x .pushing) (x .bad)
+  push-refused r x = extended (x .six) ∙ refusing (push-read g t) (t .height) (Bus 3) (judgePulls q) r (x .inside) (x .before) (x .pushing, x .bad)
 
   pull-refused : (r : ℕ) → BadPull q r → judgeOf q ≡ Bus 4 r
   pull-refused r x =
       pushed-all (x .six) (x .pushes-equal)
-      ∙ tuples-fail Accepted g t (λ r. pulls (t .ext r)) (λ r. pulled (t .ext r))
-      (t .extHeight) (Bus 4) r (x .inside) (x .before) (x .pulling) (x .bad)
+      ∙ refusing (pull-read g t) (t .extHeight) (Bus 4) Accepted r (x .inside) (x .before) (x .pulling, x .bad)
+
+  -- the number that is named is that of the first rule that fails
+  named : (rules : List Rule) (n : ℕ) → FirstFailing rules n → FirstFailing rules (failing rules)
+  named rules n f = subst (FirstFailing rules) (sym (first-failing rules n f)) f
 
   exec-refused : (r n : ℕ) → BadExec q r n → judgeOf q ≡ ExecRefused r n
   exec-refused r n x =
       started (x .four)
-      ∙ rows-fail _ (execRulesAt g t) (t .height) ExecRefused r n
-      (exec-numbered g (t .exec r) (t .exec (next (t .height) r)) (instructionOf g t r))
-      (x .inside) (x .before) (x .bad)
+      ∙ refusing (exec-read g t) (t .height) (λ r. ExecRefused r (execFailing g t r)) (judgeExtension q) r (x .inside) (x .before) (named _ n (x .bad))
+      ∙ ap (ExecRefused r) (first-failing (execRulesAt g t r) n (x .bad))
 
   ext-refused : (r n : ℕ) → BadExtension q r n → judgeOf q ≡ Extension r n
   ext-refused r n x =
       executed (x .five)
-      ∙ rows-fail _ (extRulesAt g t) (t .extHeight) Extension r n
-      (ext-numbered g (t .ext r) (t .ext (next (t .extHeight) r)))
-      (x .inside) (x .before) (x .bad)
+      ∙ refusing (ext-read g t) (t .extHeight) (λ r. Extension r (extFailing g t r)) (judgeBus q) r (x .inside) (x .before) (named _ n (x .bad))
+      ∙ ap (Extension r) (first-failing (extRulesAt g t r) n (x .bad))
 
   size-refused : (n place : ℕ) → BadSize q n place → judgeOf q ≡ Size n 0
   unfolding judgeOf
@@ -101,19 +105,17 @@ module _ (q : Parts) where
 
   word-refused : (n k : ℕ) → BadWord q n k → judgeWords q ≡ Word n k
   word-refused zero k x = absurd (omega (arith, x .inside))
-  word-refused (suc zero) k x = words-fail _ 1 (q .program) k (x .inside) (x .before) (x .bad)
-  word-refused (suc (suc zero)) k x =
-      words-pass _ 1 (q .program) (x .parts-before 1 (omega arith))
-      ∙ words-fail _ 2 (q .memory) k (x .inside) (x .before) (x .bad)
+  word-refused (suc zero) k x = at 1 _ x
+  word-refused (suc (suc zero)) k x = words-pass 1 (q .program) _ (x .parts-before 1 (omega arith)) ∙ at 2 _ x
   word-refused (suc (suc (suc zero))) k x =
-      words-pass _ 1 (q .program) (x .parts-before 1 (omega arith))
-      ∙ words-pass _ 2 (q .memory) (x .parts-before 2 (omega arith))
-      ∙ words-fail _ 3 (q .exec) k (x .inside) (x .before) (x .bad)
+      words-pass 1 (q .program) _ (x .parts-before 1 (omega arith))
+      ∙ words-pass 2 (q .memory) _ (x .parts-before 2 (omega arith))
+      ∙ at 3 _ x
   word-refused (suc (suc (suc (suc zero)))) k x =
-      words-pass _ 1 (q .program) (x .parts-before 1 (omega arith))
-      ∙ words-pass _ 2 (q .memory) (x .parts-before 2 (omega arith))
-      ∙ words-pass _ 3 (q .exec) (x .parts-before 3 (omega arith))
-      ∙ words-fail _ 4 (q .ext) k (x .inside) (x .before) (x .bad)
+      words-pass 1 (q .program) _ (x .parts-before 1 (omega arith))
+      ∙ words-pass 2 (q .memory) _ (x .parts-before 2 (omega arith))
+      ∙ words-pass 3 (q .exec) _ (x .parts-before 3 (omega arith))
+      ∙ at 4 _ x
   word-refused (suc (suc (suc (suc (suc n))))) k x = absurd (omega (arith, x .inside))
 
   satisfied : Satisfies q → PassedSix q
@@ -130,16 +132,15 @@ module _ (q : Parts) where
   accepted : Satisfies q → judgeOf q ≡ Accepted
   accepted s =
       pushed-all (satisfied s) (λ r h c. s .constraints .bus (pushedAt g t r))
-      ∙ tuples-pass Accepted g t (λ r. pulls (t .ext r)) (λ r. pulled (t .ext r))
-      (t .extHeight) (Bus 4) (λ r h c. s .constraints .bus (pulled (t .ext r)))
+      ∙ untouched (pull-read g t) (t .extHeight) (Bus 4) Accepted (λ r h c. s .constraints .bus (pulled (t .ext r)))
 
   pub only : (a : Answer) → Says q a → judgeOf q ≡ a
   unfolding Says
   only Accepted x = accepted x
   only (Size n place) x = size-refused n place x ∙ ap (Size n) (sym (x .unnamed))
   only (Word n k) x = sized (x .sizes) ∙ word-refused n k x
-  only (Instruction i) x = read (x .two) ∙ instructions-fail _ g i (x .inside) (x .before) (x .bad)
-  only Start x = formed (x .three) ∙ start-fail _ t (q .pc) (q .fp) (x .bad)
+  only (Instruction i) x = read (x .two) ∙ refusing (instructions-read g t) (g .count) Instruction (judgeStart q) i (x .inside) (x .before) (x .bad)
+  only Start x = formed (x .three) ∙ start-fail g t (q .pc) (q .fp) (judgeExecution q) (x .bad)
   only (ExecRefused r n) x = exec-refused r n x
   only (Extension r n) x = ext-refused r n x
   only (Bus n r) (inl x) = push-refused r (x .1) ∙ ap (λ (m : ℕ). Bus m r) (sym (x .0))

@@ -1,26 +1,16 @@
 -- The judge's stages as one shape, a test of numbers in order, and the judge's answer from each test on.
-use mathlib.Core.Bool.{Bool, _||_}
-use mathlib.Core.List.{List}
+use mathlib.Core.Bool.{Bool}
 use Prim.Native.Nat.{ℕ}
 use Rattle.answer.specs.declared.Answer.{Answer}
 use Rattle.answer.specs.declared.Answer.the-variants.{Accepted, Bus}
-use Rattle.rules.specs.Given.{Given, Tables, Rule, zero?}
-use Rattle.rules.specs.Bus.{Tuple, balanced}
+use Rattle.rules.specs.Given.{Given, Tables}
 use Rattle.rules.specs.Sizes.{Parts, givenOf, tablesOf}
-use Rattle.judge_spec.specs.First.{first, failing}
+use Rattle.judge_spec.specs.First.{first}
 use Rattle.judge_spec.specs.Judged.{refused, words, instructions, startsAt, execution, extension, pullBalanced, bus}
 
 -- the first of n numbers that fails a test is refused, with the answer that the number gives
 abbrev pub stage : (ℕ → Bool) → ℕ → (ℕ → Answer) → Answer → Answer
 stage passes n answer then = refused (first passes 0 n) n (answer (first passes 0 n)) then
-
--- of n rows with rules
-abbrev pub rowStage : (ℕ → List Rule) → ℕ → (ℕ → ℕ → Answer) → Answer → Answer
-rowStage rules n answer then = stage (λ r. zero? (failing (rules r))) n (λ r. answer r (failing (rules r))) then
-
--- of n rows that count their tuples so many times
-abbrev pub tupleStage : Given → Tables → (ℕ → ℕ) → (ℕ → Tuple) → ℕ → (ℕ → Answer) → Answer → Answer
-tupleStage g t times tuple n answer then = stage (λ r. zero? (times r) || balanced g t (tuple r)) n answer then
 
 -- the judge's answer from a test on; first what the bus says once no pushing row is refused
 module _ (q : Parts) where

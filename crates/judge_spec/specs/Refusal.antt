@@ -28,19 +28,12 @@ module _ (g : Given) (t : Tables) where
   abbrev pub Equal : Tuple → Type 0
   Equal σ = pushedTo g t σ (t .height) ≡ pulledTo t σ (t .extHeight)
 
-  -- a pushing row, and a row whose tuple is equal if it is one
+  -- a pushing row, and a pulling row
   abbrev pub Pushes : ℕ → Type 0
   Pushes r = pushes (instructionOf g t r) ≡ 0 → ⊥
 
-  abbrev pub PushEqual : ℕ → Type 0
-  PushEqual r = Pushes r → Equal (pushedAt g t r)
-
-  -- the same of a pulling row
   abbrev pub Pulls : ℕ → Type 0
   Pulls r = pulls (t .ext r) ≡ 0 → ⊥
-
-  abbrev pub PullEqual : ℕ → Type 0
-  PullEqual r = Pulls r → Equal (pulled (t .ext r))
 
 -- the parts by number, and whether a part's length is right; there is no part but 1 to 4, and nothing to refuse in another
 module _ (q : Parts) where
@@ -49,14 +42,7 @@ module _ (q : Parts) where
 
   abbrev pub partFits : ℕ → Bool
   partFits n =
-      getD
-      (true
-      ∷ programFits (length (q .program))
-      ∷ memoryFits (length (q .memory))
-      ∷ execFits (length (q .exec))
-      ∷ extFits (length (q .ext))
-      ∷ [])
-      n true
+      getD (true ∷ programFits (length (part 1)) ∷ memoryFits (length (part 2)) ∷ execFits (length (part 3)) ∷ extFits (length (part 4)) ∷ []) n true
 
   abbrev g : Given
   g = givenOf q
@@ -133,7 +119,7 @@ module _ (q : Parts) where
   -- 7 BUS: the first pushing row whose tuple is unequal
   pub record BadPush (r : ℕ) : Type 0 where
     pub six : PassedSix
-    pub before : (s : ℕ) → s < r → PushEqual g t s
+    pub before : (s : ℕ) → s < r → Pushes g t s → Equal g t (pushedAt g t s)
     pub inside : r < t .height
     pub pushing : Pushes g t r
     pub bad : Equal g t (pushedAt g t r) → ⊥
@@ -141,8 +127,8 @@ module _ (q : Parts) where
   -- else the first pulling row whose tuple is
   pub record BadPull (r : ℕ) : Type 0 where
     pub six : PassedSix
-    pub pushes-equal : (s : ℕ) → s < t .height → PushEqual g t s
-    pub before : (s : ℕ) → s < r → PullEqual g t s
+    pub pushes-equal : (s : ℕ) → s < t .height → Pushes g t s → Equal g t (pushedAt g t s)
+    pub before : (s : ℕ) → s < r → Pulls g t s → Equal g t (pulled (t .ext s))
     pub inside : r < t .extHeight
     pub pulling : Pulls g t r
     pub bad : Equal g t (pulled (t .ext r)) → ⊥

@@ -1,19 +1,12 @@
 -- The walk stops at the first row that has a rule that fails; what the rows passed push is followed.
 use borrow.Author.Needs.{needs}
-use borrow.Author.Tests.{ltb-true}
 use mathlib.Core.Path.{_≡_, refl, sym, _∙_}
-use mathlib.Core.List.{List, []}
-use Prim.Native.Nat.{ℕ, _-_, _*_, _/_, _<_}
+use mathlib.Core.List.{[]}
+use Prim.Native.Nat.{_-_, _*_, _/_}
 use native.Mathlib.Omega.{arith}
 use lib.ListN.{length}
-use Rattle.form.specs.declared.Instruction.{Instruction}
-use Rattle.rows.specs.declared.Exec.{Exec}
-use Rattle.rules.specs.Execution.{execRules}
 use Rattle.rules.specs.Sizes.{given, tables}
-use Rattle.judge_spec.specs.First.{failing}
 use Rattle.judge_spec.specs.Judged.{execFailing}
-use Rattle.judge_spec.proofs.Cases.{is-true}
-use Rattle.judge_spec.proofs.RuleLaws.{failing-holds, exec-numbered}
 use Rattle.inputs.proofs.Eights.{eight}
 use Rattle.bus_tuples.specs.Order.{pulledBy}
 use Rattle.bus_tuples.proofs.OrderLaws.{pulled-more}

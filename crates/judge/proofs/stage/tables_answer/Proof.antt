@@ -1,7 +1,7 @@
 -- Each answer is the case of the tests that led to it; e1 to e6 are the places where a test passed. The bus has what it asks.
 use borrow.Author.Needs.{needs}
 use borrow.Author.Tests.{lt-ltb, le-ltb, not-true, not-false}
-use mathlib.Core.Path.{sym, ap, _∙_}
+use mathlib.Core.Path.{ap, _∙_}
 use native.Mathlib.Omega.{arith}
 use Rattle.inputs.proofs.Formed.{all-formed}
 use Rattle.bus_tuples.specs.Order.{pulledBy}

@@ -10,20 +10,16 @@ returns c =
       c .before .before .first-of .ensures,
       c .before .before .before .gated3 .ensures,
       c .before .before .before .before .gated2 .ensures,
-      c .before .before .before .before .before .sub3 .ensures,
+      c .before .before .before .before .before .sub2 .ensures,
       c .before .before .before .before .before .before .gated .ensures,
-      c .before .before .before .before .before .before .before .sub2 .ensures,
-      c .before .before .before .before .before .before .before .before .add .ensures,
-      c .before .before .before .before .before .before .before .before .before .mul .ensures,
-      c .before .before .before .before .before .before .before .before .before .before .sub .ensures,
+      c .before .before .before .before .before .before .before .stride .ensures,
+      c .before .before .before .before .before .before .before .before .sub .ensures,
     )
 
 pub steps-spec : {M : Type 1} → statement M
 steps-spec =
     tie.close
     (tie.spec
-    (λ c κs. search needs)
-    (λ c κs. search needs)
     (λ c κs. search needs)
     (λ c κs. search needs)
     (λ c κs. search needs)
