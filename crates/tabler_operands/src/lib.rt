@@ -1,8 +1,11 @@
-// What a step of the tabler asks of the memory: elements and their terms, and its operands, each looked at once.
+// What a step of the tabler asks of the memory: its operands, each looked at once, and the elements of its group.
 mod elements;
 mod look;
 
+use form::Op;
+
 pub use elements::cells_exist;
+pub use elements::left_index;
 pub use elements::result_holds;
 pub use elements::same;
 pub use elements::with_element;
@@ -20,6 +23,16 @@ pub struct Operands {
     pub a: Looked,
     pub b: Looked,
     pub c: Looked,
+}
+
+// What an extension step works on: n elements at a and at b, and the result at c.
+pub struct Group {
+    pub op: Op,
+    pub be: bool,
+    pub n: u32,
+    pub a: u32,
+    pub b: u32,
+    pub c: u32,
 }
 
 // Element i of a group: a_i as five cells, b_i, and the term joined to what comes after it.

@@ -1,10 +1,9 @@
 // Padding: the extension rows past the last group.
 use rows::Ext;
 use rows::put_ext;
-use tabler_cells::cell;
 use tabler_cells::element_at;
 ghost use mathlib.Core.Path.{_≡_};
-ghost use Prim.Native.Nat.{_/_, _%_};
+ghost use Prim.Native.Nat.{_/_, _%_, _≤_};
 ghost use lib.ListN.{length};
 ghost use Rattle.word.specs.Bytes.{concatenated};
 ghost use Rattle.rules.specs.Sizes.{wordOf};
@@ -13,6 +12,7 @@ ghost use Rattle.tabler_rows.specs.Placed.{extBytes, withPadding};
 
 // start 1, len 1, all indexes and flags 0; comp and res are cells 0 to 4.
 fn padding_row(memory: &[u8]) -> Ext
+    requires { ⌜ 5 ≤ length (now memory) / 4 ⌝ }
     ensures { λ r. ⌜ r ≡ padding (wordOf (now (memory .entry))) ⌝ }
 {
     let five = element_at(memory, 0);
@@ -26,7 +26,7 @@ fn padding_row(memory: &[u8]) -> Ext
         idxB: 0,
         idxR: 0,
         be: 0,
-        base: cell(memory, 0),
+        base: five[0],
         vA: five,
         vB: five,
         comp: five,
@@ -35,7 +35,7 @@ fn padding_row(memory: &[u8]) -> Ext
 }
 
 fn put_padding(memory: &[u8], part: &mut [u8])
-    requires { ⌜ length (now part) % 120 ≡ 0 ⌝ }
+    requires { ⌜ (5 ≤ length (now memory) / 4) × (length (now part) % 120 ≡ 0) ⌝ }
     ensures { λ _. ⌜ now (part .exit) ≡ concatenated (λ j. extBytes (padding (wordOf (now (memory .entry))))) (length (now (part .entry)) / 120) ⌝ }
 {
     let row = padding_row(memory);
@@ -50,13 +50,10 @@ fn put_padding(memory: &[u8], part: &mut [u8])
 
 // Padding in every row after those filled.
 pub fn pad(memory: &[u8], filled: usize, ext: &mut [u8])
+    requires { ⌜ (5 ≤ length (now memory) / 4) × (filled ≤ length (now ext) / 120) ⌝ }
     ensures { λ _. ⌜ now (ext .exit) ≡ withPadding (wordOf (now (memory .entry))) filled (now (ext .entry)) ⌝ }
 {
-    let rows = ext.len() / 120;
-    if rows < filled {
-        return;
-    }
     let from = 120 * filled;
-    let to = 120 * rows;
+    let to = 120 * (ext.len() / 120);
     put_padding(memory, &mut ext[from..to]);
 }

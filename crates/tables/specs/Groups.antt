@@ -83,15 +83,16 @@ lengthOf (Extension op be n) = n
 abbrev pub lengthAt : Machine → State → ℕ
 lengthAt m s = lengthOf (formAt m s .kind)
 
--- row j of the group of a step, by its kind; only an extension step has one
+-- row j of the group of a step, by its kind and its operands' values; only an extension step has one
+abbrev pub kindRow : (ℕ → ℕ) → Kind → ℕ → ℕ → ℕ → ℕ → Ext
+kindRow cell AddKind a b c j = padding cell
+kindRow cell MulKind a b c j = padding cell
+kindRow cell Deref a b c j = padding cell
+kindRow cell Jump a b c j = padding cell
+kindRow cell (Extension op be n) a b c j = groupRow cell op be n a b c j
+
 abbrev pub stepRowBy : Machine → State → ℕ → Kind → Ext
-stepRowBy m s j AddKind = padding (m .cell)
-stepRowBy m s j MulKind = padding (m .cell)
-stepRowBy m s j Deref = padding (m .cell)
-stepRowBy m s j Jump = padding (m .cell)
-stepRowBy m s j (Extension op be n) =
-    let f = formAt m s in
-    groupRow (m .cell) op be n (value m s (f .a)) (value m s (f .b)) (value m s (f .c)) j
+stepRowBy m s j kind = let f = formAt m s in kindRow (m .cell) kind (value m s (f .a)) (value m s (f .b)) (value m s (f .c)) j
 
 abbrev pub stepRow : Machine → State → ℕ → Ext
 stepRow m s j = stepRowBy m s j (formAt m s .kind)

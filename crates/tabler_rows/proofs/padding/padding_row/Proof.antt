@@ -6,7 +6,7 @@ use Rattle.tabler_rows.proofs.padding.padding_row.Tie as tie
 
 returns : tie.Need-returns
 unfolding padding
-returns c = cc
+returns c = rw (c .element-at .ensures)
 
 pub padding-row-spec : {M : Type 1} → statement M
-padding-row-spec = tie.close (tie.spec (λ c κs. search needs) (λ c κs. search needs) returns)
+padding-row-spec = tie.close (tie.spec (λ c κs. search needs) (λ c. search needs) returns)
