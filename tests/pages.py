@@ -1,9 +1,9 @@
 """The pages and headers say what is true now, as far as a script can see.
 
 The picture of docs/ARCHITECTURE.md is crates.txt's; prose and comments have at most 120 characters a line (tables are exempt); every crate named
-in docs/ in backquotes as `crate::function` has that function; each file of specs/ says in its first line what it is: `Inner:` where it serves
+in docs/ in backquotes as `crate::function` has that function; docs/CLAIMS.md lists every edit; each file of specs/ says in its first line what it is: `Inner:` where it serves
 inner functions, and then it cites no section, or else the section or the demand that it states; and it says where each struct and enum that it
-uses is declared. `pages.py write` puts that line into the headers."""
+uses is declared. `pages.py write` puts that line into the headers, and the edits into the page."""
 import pathlib
 import re
 import subprocess
@@ -14,6 +14,7 @@ WIDTH = 120
 CITES = re.compile(r"document 0[12]|draft 0\.[56]\.0|demand|mission", re.I)
 DECLARED = re.compile(r"^use Rattle·(\w+?)(?:·specs)?\.specs\.declared\.(\w+)[.{]", re.M)
 LINE = "-- Declared in src/: "
+EDITS, END = "<!-- written by tests/pages.py -->\n", "<!-- end -->\n"
 
 
 def prose():
@@ -97,9 +98,28 @@ def named():
                 yield f"{page.relative_to(ROOT)} names {crate}::{name}, and there is no such function"
 
 
+def edits(write):
+    """The table of docs/CLAIMS.md with each crate's edits: those that the gate tries, and those of `./bench mutate`."""
+    page = ROOT / "docs/CLAIMS.md"
+    text = page.read_text()
+    start = text.index(EDITS) + len(EDITS)
+    end = text.index(END, start)
+    rows = ["| Crate | In the gate | By `./bench mutate` |", "|---|---|---|"]
+    for crate in re.findall(r"^(\w+):", (ROOT / "crates.txt").read_text(), re.M):
+        kinds = [sorted(edit.stem for edit in (ROOT / "crates" / crate / kind).glob("*.edit")) for kind in ("must-fail", "mutants")]
+        if any(kinds):
+            rows.append(f"| `{crate}` | " + " | ".join(", ".join(f"`{name}`" for name in names) for names in kinds) + " |")
+    table = "\n".join(rows) + "\n"
+    if text[start:end] != table:
+        if write:
+            page.write_text(text[:start] + table + text[end:])
+        else:
+            yield "docs/CLAIMS.md lists other edits than there are: tests/pages.py write"
+
+
 def main(argv):
     write = argv[1:] == ["write"]
-    faults = [*prose(), *comments(), *definitions(write), *named()]
+    faults = [*prose(), *comments(), *definitions(write), *named(), *edits(write)]
     for fault in faults:
         print(fault)
     drawn = subprocess.run([ROOT / "tools/wings", "write" if write else "check"], check=False).returncode

@@ -166,6 +166,14 @@ void speed_shuffle(speed_input *in, uint64_t seed)
     }
 }
 
+void speed_unpull(speed_input *in)
+{
+    size_t size = ROW * LENGTH, last = size * (in->height / EVERY - 2);
+    memcpy(in->shuffled, in->ext, in->ext_len);
+    for (size_t k = 0; k < LENGTH; k++)
+        memcpy(in->shuffled + last + ROW * k, in->ext + in->ext_len - ROW, ROW);
+}
+
 void speed_free(speed_input *in)
 {
     free(in->program);

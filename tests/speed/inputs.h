@@ -17,6 +17,9 @@ speed_input speed_build(unsigned height_log, unsigned ext_log, unsigned memory_l
 /* The extension table with its groups in another order, from the one that stands in `ext`. */
 void speed_shuffle(speed_input *in, uint64_t seed);
 
+/* In `shuffled` the table that stands in `ext`, but that the last group is gone: nothing pulls what the last extension step pushes. */
+void speed_unpull(speed_input *in);
+
 void speed_free(speed_input *in);
 
 #endif

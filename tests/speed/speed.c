@@ -8,120 +8,9 @@
 #include <string.h>
 #include <time.h>
 
-#include "../second/second.h"
-#include "inputs.h"
-#include "../differ/library.h"
+#include "calls.h"
 
-enum { SIZES = 3, ROUNDS = 41 };
-
-typedef struct {
-    speed_input *in;
-    const uint8_t *ext; /* the extension table that is judged */
-    uint64_t seed;
-    uint32_t m, n;
-    uint8_t text[64]; /* a label */
-    size_t text_len;
-    size_t calls; /* so many calls are timed as one */
-} job;
-
-typedef uint32_t (*call)(job *j);
-
-static uint8_t answer[16], recipe[16];
-
-static void expect(uint32_t verdict, const char *what)
-{
-    if (verdict != 0) {
-        printf("%s is refused: verdict %u, part %u, place %u, rule %u\n", what, answer[0], answer[4], answer[8], answer[12]);
-        exit(1);
-    }
-}
-
-static void put_word(uint8_t *at, uint32_t word)
-{
-    for (int k = 0; k < 4; k++)
-        at[k] = (uint8_t)(word >> 8 * k);
-}
-
-/* the second implementation's answer in 16 bytes, as the library's calls fill them */
-static uint32_t told(second_answer a)
-{
-    put_word(answer, a.verdict);
-    put_word(answer + 4, a.part);
-    put_word(answer + 8, a.place);
-    put_word(answer + 12, a.rule);
-    return a.verdict;
-}
-
-static uint32_t library_judge(job *j)
-{
-    speed_input *in = j->in;
-    return uisnabar_judge(in->program, in->program_len, in->memory, in->memory_len, 0, 0, in->exec, in->exec_len, j->ext, in->ext_len,
-                          answer, sizeof answer);
-}
-
-static uint32_t second_judges(job *j)
-{
-    speed_input *in = j->in;
-    return told(second_judge(in->program, in->program_len, in->memory, in->memory_len, 0, 0, in->exec, in->exec_len, j->ext, in->ext_len));
-}
-
-static uint32_t second_sorts(job *j)
-{
-    speed_input *in = j->in;
-    return told(second_judge_sorted(in->program, in->program_len, in->memory, in->memory_len, 0, 0, in->exec, in->exec_len, j->ext,
-                                    in->ext_len));
-}
-
-static uint32_t library_table(job *j)
-{
-    speed_input *in = j->in;
-    return probe_table(in->program, in->program_len, in->memory, in->memory_len, 0, 0, in->exec, in->exec_len, in->ext, in->ext_len,
-                       answer, sizeof answer);
-}
-
-static uint32_t second_tables(job *j)
-{
-    speed_input *in = j->in;
-    return told(second_table(in->program, in->program_len, in->memory, in->memory_len, 0, 0, in->exec, in->exec_len, in->ext, in->ext_len));
-}
-
-static uint32_t library_make(job *j)
-{
-    speed_input *in = j->in;
-    return probe_make(j->seed, j->m, j->n, in->program, 48 * (j->n + 1), in->memory, (size_t)4 << j->m, answer, sizeof answer);
-}
-
-static uint32_t second_makes(job *j)
-{
-    speed_input *in = j->in;
-    second_recipe r = {j->seed, j->m, j->n};
-    return told(second_make(r, in->program, 48 * (j->n + 1), in->memory, (size_t)4 << j->m));
-}
-
-/* labels of every seed in turn, so that no call can be left out */
-static void next_seed(job *j)
-{
-    j->text[10 + j->seed % 15] = (uint8_t)('0' + j->seed % 10);
-    j->seed++;
-}
-
-static uint32_t library_label(job *j)
-{
-    next_seed(j);
-    return uisnabar_label(j->text, j->text_len, answer, sizeof answer, recipe, sizeof recipe);
-}
-
-static uint32_t second_label(job *j)
-{
-    second_recipe r;
-    next_seed(j);
-    second_answer a = second_read_label(j->text, j->text_len, &r);
-    put_word(recipe, (uint32_t)r.seed);
-    put_word(recipe + 4, (uint32_t)(r.seed >> 32));
-    put_word(recipe + 8, r.m);
-    put_word(recipe + 12, r.n);
-    return told(a);
-}
+enum { SIZES = 3, ROUNDS = 41, FEW = 5, BUS = 7 };
 
 static double seconds(void)
 {
@@ -134,7 +23,7 @@ static double once(call f, job *j, const char *what)
 {
     double begun = seconds();
     for (size_t i = 0; i < j->calls; i++)
-        expect(f(j), what);
+        expect(f(j), j->wanted, what);
     return (seconds() - begun) / (double)j->calls;
 }
 
@@ -155,7 +44,7 @@ static int by_size(const void *x, const void *y)
 
 /* All sizes in each round, so that a slow spell of the machine falls on each of them, and each implementation first in turn, as the first finds
  * caches cold. The ratio is the middle one of all rounds. */
-static void compare(const char *what, compared c[SIZES], int sizes, int rounds, call library, call second)
+static void compare(const char *what, compared *c, int sizes, int rounds, call library, call second)
 {
     for (int s = 0; s < sizes; s++)
         c[s].library = c[s].second = 1e30;
@@ -233,8 +122,29 @@ static void tables(void)
     }
     compare("judge, groups shuffled; sorted", c, SIZES, ROUNDS, library_judge, second_sorts);
     compare("judge, groups shuffled; counted", c, 2, 1, library_judge, second_judges);
+    for (int s = 0; s < SIZES; s++) {
+        speed_unpull(&in[s]);
+        c[s].j.ext = in[s].shuffled;
+        c[s].j.wanted = BUS;
+        c[s].j.calls = 1;
+    }
+    compare("judge, last push unequal; sorted", c, SIZES, FEW, library_judge, second_sorts);
     for (int s = 0; s < SIZES; s++)
         speed_free(&in[s]);
+}
+
+/* maker, tabler and judge at H = K = 256: what a night of labels is made of */
+static void whole(void)
+{
+    speed_input in = speed_build(8, 8, 20, 1);
+    static compared c[1];
+    c[0] = (compared){.size = "m 10, n 124, H = K = 256", .units = 1};
+    c[0].j = (job){.in = &in, .ext = in.ext, .seed = 5, .m = 10, .n = 124, .calls = 64};
+    in.program_len = 48 * 125;
+    in.memory_len = 4 << 10;
+    compare("a label's whole way", c, 1, ROUNDS, library_whole, second_whole);
+    printf("%-34s %-26s library %.0f labels each second, second %.0f\n", "", c[0].size, 1 / c[0].library, 1 / c[0].second);
+    speed_free(&in);
 }
 
 static void makers(void)
@@ -258,7 +168,7 @@ static void labels(void)
     static compared c[SIZES];
     for (int s = 0; s < SIZES; s++) {
         c[s] = (compared){.size = sizes[s], .j = {.seed = 1, .calls = 20000}};
-        c[s].j.text_len = probe_write(0x0123456789abcdef, 10, ns[s], c[s].j.text, sizeof c[s].j.text, answer, sizeof answer);
+        c[s].j.text_len = write_label(&c[s].j, ns[s]);
         c[s].units = (double)c[s].j.text_len;
     }
     compare("label reader, each byte", c, SIZES, ROUNDS, library_label, second_label);
@@ -270,5 +180,6 @@ int main(void)
     tables();
     makers();
     labels();
+    whole();
     return 0;
 }

@@ -1,19 +1,16 @@
 -- Where an instruction is malformed, and what is known of one that is not, by its kind.
 -- Each follows the tests of decodeOf in turn. Assumes nothing.
 use mathlib.Core.Path.{_≡_, refl, sym, ap, _∙_}
-use mathlib.Core.Bool.{true, false, true≢false, _||_}
+use mathlib.Core.Bool.{Bool, true, false, cond, true≢false, false≢true, _&&_, _||_}
 use mathlib.Core.List.{[], _∷_}
 use Prim.Native.Nat.{ℕ, _+_, _≤_}
 use native.Mathlib.Omega.{arith}
 use lib.Dec.{eqb}
 use borrow.Author.Tests.{eqb-true, leb-true}
-use Rattle.form.proofs.Cases.{by-test, either, each}
-use Rattle.form.proofs.DataLaws.{ReadAs, read-as}
-use Rattle.form.specs.Data.{readData}
-use Rattle.form.specs.Form.{flag, flagsFit, opcode, plain, isAdd, isMul, isDeref, isJump, wellFormed, operandOf, formOf, extensionOf, decodeOf}
+use Rattle.word.proofs.Tests.{by-test, either, each}
+use Rattle.form.specs.Data.{Call, None, Of, readData, isCall}
+use Rattle.form.specs.Form.{flag, flagsFit, opcode, plain, isAdd, isMul, isDeref, isJump, operandOf, formOf, extensionOf, decodeOf, isWell, wellFormed}
 use Rattle.form.specs.declared.Instruction.{Instruction}
-use Rattle.form.specs.declared.Call.{Call}
-use Rattle.form.specs.declared.Call.the-variants.{None, Of}
 use Rattle.form.specs.declared.Kind.{Kind}
 use Rattle.form.specs.declared.Kind.the-variants.{Add, Mul, Deref, Jump, Extension}
 use Rattle.form.specs.declared.Form.{Form}
@@ -46,7 +43,6 @@ Words i (Extension op be n) = Opcode i 0 0 0 × (readData (i .«data») ≡ Of o
 
 -- what is known of an instruction of a form
 pub record Formed (i : Instruction) (f : Form) : Type 0 where
-  pub well-formed : wellFormed i ≡ true
   pub flags : Flags i
   pub words : Words i (f .kind)
   pub a-is : f .a ≡ operandOf (i .fa) (i .fpab) (i .a)
@@ -54,7 +50,7 @@ pub record Formed (i : Instruction) (f : Form) : Type 0 where
   pub c-is : f .c ≡ operandOf (i .fc) (i .fpc) (i .c)
 
 abbrev Says : Instruction → Decoded → Type 0
-Says i Malformed = wellFormed i ≡ false
+Says i Malformed = Unit {0}
 Says i (Well f) = Formed i f
 
 one-at-most : (x y : ℕ) → flag x ≡ true → flag y ≡ true → eqb x 0 || eqb y 0 ≡ true → x + y ≤ 1
@@ -70,7 +66,7 @@ module _ (i : Instruction) where
       t in
       record { a = one-at-most _ _ a pab a-pab; b = one-at-most _ _ b pab b-pab; c = one-at-most _ _ c pc c-pc }
 
-  opcode-of : (mul jump aux : ℕ) → opcode i mul jump aux ≡ true → Opcode i mul jump aux
+  pub opcode-of : (mul jump aux : ℕ) → opcode i mul jump aux ≡ true → Opcode i mul jump aux
   opcode-of mul jump aux t =
       let e = each (eqb (i .mul) mul) (eqb (i .jump) jump ∷ eqb (i .aux) aux ∷ []) t in
       record { mul-is = eqb-true _ _ (e .0); jump-is = eqb-true _ _ (e .1 .0); aux-is = eqb-true _ _ (e .1 .1) }
@@ -80,66 +76,59 @@ module _ (i : Instruction) where
       let e = each (eqb (i .fpab) 0) (eqb (i .«data») 0 ∷ []) t in
       record { fpab-is = eqb-true _ _ (e .0); data-is = eqb-true _ _ (e .1) }
 
-  formed : (k : Kind) → wellFormed i ≡ true → flagsFit i ≡ true → Words i k → Says i (formOf i k)
-  formed k well fit words = record { well-formed = well; flags = flags-of fit; words = words; a-is = refl; b-is = refl; c-is = refl }
-
   module _ (fit : flagsFit i ≡ true) where
+    formed : (k : Kind) → Words i k → Says i (formOf i k)
+    formed k words = record { flags = flags-of fit; words = words; a-is = refl; b-is = refl; c-is = refl }
+
     added : isAdd i ≡ true → Says i (formOf i Add)
     added t =
         let (o, p) = each (opcode i 0 0 1) (plain i ∷ []) t in
-        formed Add (rw (fit, t)) fit (opcode-of 0 0 1 o, plain-of p)
+        formed Add (opcode-of 0 0 1 o, plain-of p)
 
-    module _ (a : isAdd i ≡ false) where
-      multiplied : isMul i ≡ true → Says i (formOf i Mul)
-      multiplied t =
-          let (o, p) = each (opcode i 1 0 0) (plain i ∷ []) t in
-          formed Mul (rw (fit, a, t)) fit (opcode-of 1 0 0 o, plain-of p)
+    multiplied : isMul i ≡ true → Says i (formOf i Mul)
+    multiplied t =
+        let (o, p) = each (opcode i 1 0 0) (plain i ∷ []) t in
+        formed Mul (opcode-of 1 0 0 o, plain-of p)
 
-      module _ (m : isMul i ≡ false) where
-        dereferred : isDeref i ≡ true → Says i (formOf i Deref)
-        dereferred t =
-            let (o, (p, (fa, fb))) = each (opcode i 0 0 2) (plain i ∷ eqb (i .fa) 0 ∷ eqb (i .fb) 1 ∷ []) t in
-            formed Deref (rw (fit, a, m, t)) fit (opcode-of 0 0 2 o, plain-of p, eqb-true _ _ fa, eqb-true _ _ fb)
+    dereferred : isDeref i ≡ true → Says i (formOf i Deref)
+    dereferred t =
+        let (o, (p, (fa, fb))) = each (opcode i 0 0 2) (plain i ∷ eqb (i .fa) 0 ∷ eqb (i .fb) 1 ∷ []) t in
+        formed Deref (opcode-of 0 0 2 o, plain-of p, eqb-true _ _ fa, eqb-true _ _ fb)
 
-        module _ (d : isDeref i ≡ false) where
-          jumped : isJump i ≡ true → Says i (formOf i Jump)
-          jumped t =
-              let (o, (p, fc)) = each (opcode i 0 1 0) (plain i ∷ eqb (i .fc) 0 ∷ []) t in
-              formed Jump (rw (fit, a, m, d, t)) fit (opcode-of 0 1 0 o, plain-of p, eqb-true _ _ fc)
+    jumped : isJump i ≡ true → Says i (formOf i Jump)
+    jumped t =
+        let (o, (p, fc)) = each (opcode i 0 1 0) (plain i ∷ eqb (i .fc) 0 ∷ []) t in
+        formed Jump (opcode-of 0 1 0 o, plain-of p, eqb-true _ _ fc)
 
-          extended : isJump i ≡ false → opcode i 0 0 0 ≡ true → (c : Call) → ReadAs (i .«data») c → readData (i .«data») ≡ c → Says i (extensionOf i c)
-          extended j o None none e = rw (fit, a, m, d, j, o, none)
-          extended j o (Of op be n) some e = formed (Extension op be n) (rw (fit, a, m, d, j, o, some .1)) fit (opcode-of 0 0 0 o, e)
+    extended : opcode i 0 0 0 ≡ true → (c : Call) → readData (i .«data») ≡ c → Says i (extensionOf i c)
+    extended o None e = tt
+    extended o (Of op be n) e = formed (Extension op be n) (opcode-of 0 0 0 o, e)
 
   decided : Says i (decodeOf i)
   unfolding decodeOf
   decided =
       by-test (Says i) (flagsFit i) (λ fit.
-      by-test (Says i) (isAdd i) (added fit) (λ a.
-      by-test (Says i) (isMul i) (multiplied fit a) (λ m.
-      by-test (Says i) (isDeref i) (dereferred fit a m) (λ d.
-      by-test (Says i) (isJump i) (jumped fit a m d) (λ j.
-      by-test (Says i) (opcode i 0 0 0) (λ o. extended fit a m d j o (readData (i .«data»)) (read-as (i .«data»)) refl) (λ o.
-      rw (fit, a, m, d, j, o)))))))
-      (λ unfit. rw unfit)
+      by-test (Says i) (isAdd i) (added fit) (λ _.
+      by-test (Says i) (isMul i) (multiplied fit) (λ _.
+      by-test (Says i) (isDeref i) (dereferred fit) (λ _.
+      by-test (Says i) (isJump i) (jumped fit) (λ _.
+      by-test (Says i) (opcode i 0 0 0) (λ o. extended fit o (readData (i .«data»)) refl) (λ _. tt))))))
+      (λ _. tt)
 
   -- an instruction is malformed exactly where it isn't well-formed
   pub malformed : decodeOf i ≡ Malformed → wellFormed i ≡ false
-  malformed e = rw e at decided
+  malformed e = ap isWell e
 
   pub not-well-formed : wellFormed i ≡ false → decodeOf i ≡ Malformed
-  not-well-formed not = only (decodeOf i) decided
+  not-well-formed = only (decodeOf i)
     where
-      only : (d : Decoded) → Says i d → d ≡ Malformed
-      only Malformed s = refl
-      only (Well f) s = absurd (true≢false (sym (s .well-formed) ∙ not))
+      only : (d : Decoded) → isWell d ≡ false → d ≡ Malformed
+      only Malformed not = refl
+      only (Well f) not = absurd (true≢false not)
 
   -- what a form tells of its instruction
   pub formed-of : (f : Form) → decodeOf i ≡ Well f → Formed i f
   formed-of f e = rw e at decided
-
-  pub words-of : (f : Form) (k : Kind) → decodeOf i ≡ Well f → f .kind ≡ k → Words i k
-  words-of f k e is = rw is at (formed-of f e .words)
 
   -- and what of an instruction gives it a form
   pub decodes : (k : Kind) → flagsFit i ≡ true → Words i k → decodeOf i ≡ formOf i k
@@ -160,8 +149,25 @@ module _ (i : Instruction) where
 
   -- a well-formed instruction has a form
   pub well : wellFormed i ≡ true → (f : Form) × (decodeOf i ≡ Well f)
-  well fits = some (decodeOf i) decided refl
+  well = some (decodeOf i)
     where
-      some : (d : Decoded) → Says i d → decodeOf i ≡ d → (f : Form) × (decodeOf i ≡ Well f)
-      some Malformed s e = absurd (true≢false (sym fits ∙ s))
-      some (Well f) s e = (f, e)
+      some : (d : Decoded) → isWell d ≡ true → (f : Form) × (d ≡ Well f)
+      some Malformed fits = absurd (false≢true fits)
+      some (Well f) fits = (f, refl)
+
+  -- the tests by which an instruction is known to be well-formed
+  pub tested : flagsFit i && (isAdd i || isMul i || isDeref i || isJump i || (opcode i 0 0 0 && isCall (readData (i .«data»)))) ≡ wellFormed i
+  unfolding decodeOf
+  tested = same (flagsFit i) (isAdd i) (isMul i) (isDeref i) (isJump i) (opcode i 0 0 0) (readData (i .«data»))
+    where
+      same : (fit a m d j o : Bool) (c : Call)
+          → fit && (a || m || d || j || (o && isCall c))
+          ≡ isWell (cond fit (cond a (formOf i Add) (cond m (formOf i Mul) (cond d (formOf i Deref) (cond j (formOf i Jump) (cond o (extensionOf i c) Malformed))))) Malformed)
+      same false a m d j o c = refl
+      same true true m d j o c = refl
+      same true false true d j o c = refl
+      same true false false true j o c = refl
+      same true false false false true o c = refl
+      same true false false false false false c = refl
+      same true false false false false true None = refl
+      same true false false false false true (Of op be n) = refl

@@ -3,4 +3,3 @@ pub mod DataLaws
 pub mod Forms
 pub mod Opcodes
 pub mod Part
-pub mod Fours

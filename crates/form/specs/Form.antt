@@ -1,11 +1,9 @@
 -- Document 01, "Well-formed instructions", and what a well-formed one is: one of five kinds, with three operands.
 use Prim.Native.Nat.{ℕ}
-use mathlib.Core.Bool.{Bool, cond, _&&_, _||_}
+use mathlib.Core.Bool.{Bool, true, false, cond, _&&_, _||_}
 use lib.Dec.{leb, eqb}
-use Rattle.form.specs.Data.{isData, readData}
+use Rattle.form.specs.Data.{Call, None, Of, readData}
 use Rattle.form.specs.declared.Instruction.{Instruction}
-use Rattle.form.specs.declared.Call.{Call}
-use Rattle.form.specs.declared.Call.the-variants.{None, Of}
 use Rattle.form.specs.declared.Mode.the-variants.{Immediate, Cell, Frame}
 use Rattle.form.specs.declared.Operand.{Operand}
 use Rattle.form.specs.declared.Kind.{Kind}
@@ -44,12 +42,6 @@ isDeref i = opcode i 0 0 2 && plain i && eqb (i .fa) 0 && eqb (i .fb) 1
 abbrev pub isJump : Instruction → Bool
 isJump i = opcode i 0 1 0 && plain i && eqb (i .fc) 0
 
-abbrev pub isExtension : Instruction → Bool
-isExtension i = opcode i 0 0 0 && isData (i .«data»)
-
-abbrev pub wellFormed : Instruction → Bool
-wellFormed i = flagsFit i && (isAdd i || isMul i || isDeref i || isJump i || isExtension i)
-
 -- an operand is an immediate where its flag is 1, fp + offset where its fp flag is, and else the cell at fp + offset
 abbrev pub operandOf : ℕ → ℕ → ℕ → Operand
 operandOf flag fp word = record { mode = cond (eqb flag 1) Immediate (cond (eqb fp 1) Frame Cell); word = word }
@@ -82,9 +74,10 @@ byKind i =
 unfoldable pub decodeOf : Instruction → Decoded
 decodeOf i = cond (flagsFit i) (byKind i) Malformed
 
--- by the opcode words alone; of a well-formed instruction it is the same (proofs/Opcodes `known`)
-abbrev pub byOpcode : Instruction → Decoded
-byOpcode i =
-    cond (eqb (i .aux) 1) (formOf i Add)
-    (cond (eqb (i .aux) 2) (formOf i Deref)
-    (cond (eqb (i .mul) 1) (formOf i Mul) (cond (eqb (i .jump) 1) (formOf i Jump) (extensionOf i (readData (i .«data»))))))
+abbrev pub isWell : Decoded → Bool
+isWell Malformed = false
+isWell (Well f) = true
+
+-- an instruction is well-formed where it has a form
+abbrev pub wellFormed : Instruction → Bool
+wellFormed i = isWell (decodeOf i)

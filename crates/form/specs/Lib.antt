@@ -1,4 +1,4 @@
 pub mod Data
 pub mod Instruction
-pub mod Fours
 pub mod Form
+pub mod Opcodes

@@ -1,9 +1,10 @@
 // DATA both ways.
-use crate::Call;
+use crate::Kind;
 use crate::Op;
 ghost use mathlib.Core.Path.{_≡_};
 ghost use Prim.Native.Nat.{_≤_};
-ghost use Rattle.form.specs.Data.{bit, dataWord, callOf, isData, readData};
+ghost use Rattle.form.specs.Data.{bit, dataWord, readData, isCall};
+ghost use Rattle.form.specs.Opcodes.{opBy, extensionBy};
 
 // The largest number of elements, 2^20.
 const MOST: u32 = 1048576;
@@ -26,47 +27,9 @@ pub fn data_word(op: Op, be: bool, n: u32) -> u64
     }
 }
 
-fn call_of(rest: u32, n: u32) -> Call
-    ensures { λ r. ⌜ r ≡ callOf rest n ⌝ }
-{
-    match rest {
-        4 => Call::Of {
-            op: Op::Add,
-            be: false,
-            n,
-        },
-        6 => Call::Of {
-            op: Op::Add,
-            be: true,
-            n,
-        },
-        8 => Call::Of {
-            op: Op::Mul,
-            be: false,
-            n,
-        },
-        10 => Call::Of {
-            op: Op::Mul,
-            be: true,
-            n,
-        },
-        16 => Call::Of {
-            op: Op::Peq,
-            be: false,
-            n,
-        },
-        18 => Call::Of {
-            op: Op::Peq,
-            be: true,
-            n,
-        },
-        _ => Call::None,
-    }
-}
-
 // Whether a DATA word names a call.
-pub fn is_data(data: u32) -> bool
-    ensures { λ r. ⌜ r ≡ isData «data» ⌝ }
+pub(crate) fn is_data(data: u32) -> bool
+    ensures { λ r. ⌜ r ≡ isCall (readData «data») ⌝ }
 {
     let n = data / 32;
     let rest = data % 32;
@@ -75,13 +38,26 @@ pub fn is_data(data: u32) -> bool
         & ((rest == 4) | (rest == 6) | (rest == 8) | (rest == 10) | (rest == 16) | (rest == 18))
 }
 
-// The call that a DATA word names.
-pub fn read_data(data: u32) -> Call
-    ensures { λ r. ⌜ r ≡ readData «data» ⌝ }
+fn op_of(rest: u32) -> Op
+    ensures { λ r. ⌜ r ≡ opBy rest ⌝ }
 {
-    let n = data / 32;
-    if (1 <= n) & (n <= MOST) {
-        return call_of(data % 32, n);
+    if rest < 8 {
+        return Op::Add;
     }
-    Call::None
+    if rest < 16 {
+        return Op::Mul;
+    }
+    Op::Peq
+}
+
+// The kind of an instruction whose DATA is known to name a call.
+pub(crate) fn extension_of(data: u32) -> Kind
+    ensures { λ r. ⌜ r ≡ extensionBy «data» ⌝ }
+{
+    let rest = data % 32;
+    Kind::Extension {
+        op: op_of(rest),
+        be: rest / 2 % 2 == 1,
+        n: data / 32,
+    }
 }

@@ -4,7 +4,7 @@ use crate::data::is_data;
 ghost use mathlib.Core.Path.{_≡_};
 ghost use Rattle.form.specs.Form.{flagsFit, opcode, isAdd, isMul, isDeref, isJump, wellFormed};
 
-pub fn flags_fit(i: Instruction) -> bool
+fn flags_fit(i: Instruction) -> bool
     ensures { λ r. ⌜ r ≡ flagsFit i ⌝ }
 {
     (i.fa <= 1)
@@ -17,19 +17,19 @@ pub fn flags_fit(i: Instruction) -> bool
         & ((i.fc == 0) | (i.fpc == 0))
 }
 
-pub fn is_add(i: Instruction) -> bool
+fn is_add(i: Instruction) -> bool
     ensures { λ r. ⌜ r ≡ isAdd i ⌝ }
 {
     ((i.mul == 0) & (i.jump == 0) & (i.aux == 1)) & ((i.fpab == 0) & (i.data == 0))
 }
 
-pub fn is_mul(i: Instruction) -> bool
+fn is_mul(i: Instruction) -> bool
     ensures { λ r. ⌜ r ≡ isMul i ⌝ }
 {
     ((i.mul == 1) & (i.jump == 0) & (i.aux == 0)) & ((i.fpab == 0) & (i.data == 0))
 }
 
-pub fn is_deref(i: Instruction) -> bool
+fn is_deref(i: Instruction) -> bool
     ensures { λ r. ⌜ r ≡ isDeref i ⌝ }
 {
     ((i.mul == 0) & (i.jump == 0) & (i.aux == 2))
@@ -38,14 +38,14 @@ pub fn is_deref(i: Instruction) -> bool
         & (i.fb == 1)
 }
 
-pub fn is_jump(i: Instruction) -> bool
+fn is_jump(i: Instruction) -> bool
     ensures { λ r. ⌜ r ≡ isJump i ⌝ }
 {
     ((i.mul == 0) & (i.jump == 1) & (i.aux == 0)) & ((i.fpab == 0) & (i.data == 0)) & (i.fc == 0)
 }
 
 // An extension instruction has no opcode word; its DATA says the rest.
-pub fn no_opcode(i: Instruction) -> bool
+fn no_opcode(i: Instruction) -> bool
     ensures { λ r. ⌜ r ≡ opcode i 0 0 0 ⌝ }
 {
     (i.mul == 0) & (i.jump == 0) & (i.aux == 0)

@@ -1,27 +1,63 @@
 // The form of an instruction that is known to be well-formed: no test is made again.
 use crate::Decoded;
+use crate::Form;
 use crate::Instruction;
 use crate::Kind;
-use crate::extension;
-use crate::formed;
+use crate::Mode;
+use crate::Operand;
+use crate::data::extension_of;
 ghost use mathlib.Core.Path.{_≡_};
-ghost use Rattle.form.specs.Form.{byOpcode};
+ghost use mathlib.Core.Bool.{true};
+ghost use Rattle.form.specs.Form.{operandOf, wellFormed, decodeOf};
+ghost use Rattle.form.specs.Opcodes.{kindBy};
 
-// The form of a well-formed instruction, by its opcode words alone.
-pub fn decode_known(i: Instruction) -> Decoded
-    ensures { λ r. ⌜ r ≡ byOpcode i ⌝ }
+fn operand_of(flag: u32, fp: u32, word: u32) -> Operand
+    ensures { λ r. ⌜ r ≡ operandOf flag fp word ⌝ }
+{
+    if flag == 1 {
+        return Operand {
+            mode: Mode::Immediate,
+            word,
+        };
+    }
+    if fp == 1 {
+        return Operand {
+            mode: Mode::Frame,
+            word,
+        };
+    }
+    Operand {
+        mode: Mode::Cell,
+        word,
+    }
+}
+
+// By the opcode words alone.
+fn kind_of(i: Instruction) -> Kind
+    ensures { λ r. ⌜ r ≡ kindBy i ⌝ }
 {
     if i.aux == 1 {
-        return formed(i, Kind::Add);
+        return Kind::Add;
     }
     if i.aux == 2 {
-        return formed(i, Kind::Deref);
+        return Kind::Deref;
     }
     if i.mul == 1 {
-        return formed(i, Kind::Mul);
+        return Kind::Mul;
     }
     if i.jump == 1 {
-        return formed(i, Kind::Jump);
+        return Kind::Jump;
     }
-    extension(i)
+    extension_of(i.data)
+}
+
+pub fn decode_known(i: Instruction) -> Decoded
+    requires { ⌜ wellFormed i ≡ true ⌝ }
+    ensures { λ r. ⌜ r ≡ decodeOf i ⌝ }
+{
+    let kind = kind_of(i);
+    let a = operand_of(i.fa, i.fpab, i.a);
+    let b = operand_of(i.fb, i.fpab, i.b);
+    let c = operand_of(i.fc, i.fpc, i.c);
+    Decoded::Well(Form { kind, a, b, c })
 }

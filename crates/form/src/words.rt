@@ -6,40 +6,7 @@ use word::word_inside;
 ghost use mathlib.Core.Path.{_≡_};
 ghost use Prim.Native.Nat.{_+_, _≤_, _<_};
 ghost use lib.ListN.{length};
-ghost use Rattle.form.specs.Fours.{fourAt, ofFours};
 ghost use Rattle.form.specs.Instruction.{instructionAt};
-
-fn four_inside(s: &[u8], at: usize) -> [u32; 4]
-    requires { ⌜ at + 16 ≤ length (now s) ⌝ }
-    ensures { λ r. ⌜ r ≡ fourAt (now (s .entry)) at ⌝ }
-{
-    [
-        word_inside(s, at),
-        word_inside(s, at + 4),
-        word_inside(s, at + 8),
-        word_inside(s, at + 12),
-    ]
-}
-
-// The 12 words by their names.
-fn named(first: [u32; 4], second: [u32; 4], third: [u32; 4]) -> Instruction
-    ensures { λ r. ⌜ r ≡ ofFours first second third ⌝ }
-{
-    Instruction {
-        a: first[0],
-        b: first[1],
-        c: first[2],
-        fa: first[3],
-        fb: second[0],
-        fc: second[1],
-        fpc: second[2],
-        fpab: second[3],
-        mul: third[0],
-        jump: third[1],
-        aux: third[2],
-        data: third[3],
-    }
-}
 
 // The first instruction, where bytes of it may be past the end.
 fn first_short(s: &[u8]) -> Instruction
@@ -73,11 +40,20 @@ pub fn instruction_inside(s: &[u8], at: usize) -> Instruction
     requires { ⌜ at + 48 ≤ length (now s) ⌝ }
     ensures { λ r. ⌜ r ≡ instructionAt (now (s .entry)) at ⌝ }
 {
-    named(
-        four_inside(s, at),
-        four_inside(s, at + 16),
-        four_inside(s, at + 32),
-    )
+    Instruction {
+        a: word_inside(s, at),
+        b: word_inside(s, at + 4),
+        c: word_inside(s, at + 8),
+        fa: word_inside(s, at + 12),
+        fb: word_inside(s, at + 16),
+        fc: word_inside(s, at + 20),
+        fpc: word_inside(s, at + 24),
+        fpab: word_inside(s, at + 28),
+        mul: word_inside(s, at + 32),
+        jump: word_inside(s, at + 36),
+        aux: word_inside(s, at + 40),
+        data: word_inside(s, at + 44),
+    }
 }
 
 // The instruction that starts at a byte; bytes past the end count as 0.

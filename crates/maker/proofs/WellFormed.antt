@@ -1,7 +1,7 @@
 -- Every instruction that is made is well-formed, and every word below p.
 -- Assumes nothing.
 use mathlib.Core.Path.{_≡_, refl}
-use mathlib.Core.Bool.{Bool, true}
+use mathlib.Core.Bool.{true}
 use mathlib.Core.List.{List, [], _∷_}
 use Prim.Native.Nat.{ℕ, zero, suc, _+_, _-_, _/_, _%_, _≤_, _<_}
 use native.Mathlib.Nat.{mod-lt}
@@ -10,29 +10,25 @@ use lib.Dec.{ltb, eqb, lit<}
 use lib.ListN.{getD}
 use Rattle.word.specs.Word.{p, IsWord}
 use Rattle.word.proofs.WordLaws.{sum-word, product-word}
-use Rattle.form.specs.Data.{dataWord, isData}
-use Rattle.form.specs.Form.{wellFormed}
+use Rattle.form.specs.Form.{decodeOf, wellFormed}
 use Rattle.form.specs.declared.Instruction.{Instruction}
-use Rattle.form.specs.declared.Op.{Op}
 use Rattle.form.proofs.Cases.{by-test}
-use Rattle.form.proofs.DataLaws.{written, read-as}
+use Rattle.form.proofs.DataLaws.{written}
 use Rattle.maker.specs.Drawn.{cellDrawn, kindOf, aOf, cOf}
 use Rattle.maker.specs.Made.{opOf, beOf, lengthOf, made, halt, instructionOf, slotCell, cellOf}
 use Rattle.maker.specs.Bytes.{wordsOf}
 use Rattle.maker.proofs.Making.{data-small, result-element}
 
--- a DATA word of one or two elements
-is-data : (op : Op) (be : Bool) (n : ℕ) → 1 ≤ n → n ≤ 2 → isData (dataWord op be n) ≡ true
-is-data op be n low high = (rw (written op be n low (omega arith)) at (read-as (dataWord op be n))) .1
-
 made-formed : (i kind a c : ℕ) → wellFormed (made i kind a c) ≡ true
+unfolding decodeOf
 made-formed i zero a c = refl
 made-formed i (suc zero) a c = refl
 made-formed i (suc (suc zero)) a c = refl
 made-formed i (suc (suc (suc zero))) a c = refl
-made-formed i (suc (suc (suc (suc k)))) a c = is-data (opOf c) (beOf c) (lengthOf c) (omega arith) (omega arith)
+made-formed i (suc (suc (suc (suc k)))) a c = rw (written (opOf c) (beOf c) (lengthOf c) (omega arith) (omega arith))
 
 pub well-formed : (seed n i : ℕ) → wellFormed (instructionOf seed n i) ≡ true
+unfolding decodeOf
 well-formed seed n i =
     by-test (λ (x : Instruction). wellFormed x ≡ true) (ltb i n) (λ t. made-formed i (kindOf seed i) (aOf seed i) (cOf seed i)) (λ t. refl)
 

@@ -1,11 +1,13 @@
 -- A tuple that an execution row pushes is pulled by a row of the extension table, so the memory holds what an extension step asks.
 -- Assumes nothing.
-use mathlib.Core.Path.{_≡_, refl, _∙_, ap, subst₃}
-use mathlib.Core.Bool.{Bool, true, false, _&&_, cond}
-use Prim.Native.Nat.{ℕ, zero, suc, _+_, _≤_, _<_}
+use mathlib.Core.Path.{_≡_, _∙_, ap, subst₃}
+use mathlib.Core.Bool.{Bool, true, cond}
+use mathlib.Core.List.{[], _∷_}
+use Prim.Native.Nat.{ℕ, zero, suc, _≤_, _<_}
 use native.Mathlib.Omega.{arith}
-use lib.Dec.{T, eqb, eqb→eq}
-use borrow.Author.Tests.{eqb-true, eqb-false, eq-eqb}
+use lib.Dec.{eqb}
+use borrow.Author.Tests.{eqb-true}
+use Rattle.word.proofs.Tests.{eqb-same, each, cases, by-equal}
 use Rattle.form.specs.declared.Form.{Form}
 use Rattle.form.specs.declared.Op.{Op}
 use Rattle.form.specs.declared.Kind.{Kind}
@@ -22,14 +24,8 @@ use Rattle.run_groups.proofs.Pulled.{pulled-legal}
 -- a sum is at least each of its terms
 at-least : (f : ℕ → ℕ) (n r : ℕ) → r < n → f r ≤ total f n
 at-least f zero r h = absurd (omega arith)
-at-least f (suc n) r h = go (eqb r n) refl (at-least f n r)
-  where
-    go : (b : Bool) → eqb r n ≡ b → (r < n → f r ≤ total f n) → f r ≤ total f n + f n
-    go true e earlier = omega (arith, ap f (eqb-true r n e))
-    go false e earlier =
-        let other = eqb-false r n e in
-        let before : r < n = omega arith in
-        omega (arith, earlier before)
+at-least f (suc n) r h =
+    by-equal r n (λ e. omega (arith, ap f e)) (λ other. let before : r < n = omega arith in omega (arith, at-least f n r before))
 
 -- a sum that isn't 0 has a term that isn't
 pub record Term (f : ℕ → ℕ) (n : ℕ) : Type 0 where
@@ -39,20 +35,13 @@ pub record Term (f : ℕ → ℕ) (n : ℕ) : Type 0 where
 
 some-term : (f : ℕ → ℕ) (n : ℕ) → 1 ≤ total f n → Term f n
 some-term f zero h = absurd (omega arith)
-some-term f (suc n) h = go (eqb (f n) 0) refl (some-term f n)
-  where
-    go : (b : Bool) → eqb (f n) 0 ≡ b → (1 ≤ total f n → Term f n) → Term f (suc n)
-    go true e earlier =
-        let t = earlier (omega (arith, eqb-true (f n) 0 e)) in
-        record { at = t .at; below = omega (arith, t .below); counts = t .counts }
-    go false e earlier = record { at = n; below = omega arith; counts = eqb-false (f n) 0 e }
-
-both : (a b : Bool) → T (a && b) → T a × T b
-both true b t = (tt, t)
-both false b t = absurd t
+some-term f (suc n) h =
+    by-equal (f n) 0
+    (λ none. let t = some-term f n (omega arith) in record { at = t .at; below = omega (arith, t .below); counts = t .counts })
+    (λ some. record { at = n; below = omega arith; counts = some })
 
 same-itself : (σ : Tuple) → sameTuple σ σ ≡ true
-same-itself σ = rw (eq-eqb (σ .aux) (σ .aux) refl, eq-eqb (σ .left) (σ .left) refl, eq-eqb (σ .right) (σ .right) refl, eq-eqb (σ .out) (σ .out) refl)
+same-itself σ = simp eqb-same
 
 -- a row that counts for a tuple: its own tuple is that one
 pub record Pulling (x : Tuple) (σ : Tuple) (n : ℕ) : Type 0 where
@@ -63,21 +52,17 @@ pub record Pulling (x : Tuple) (σ : Tuple) (n : ℕ) : Type 0 where
   pub counts : n ≡ 0 → ⊥
 
 pulling : (x σ : Tuple) (n : ℕ) → (cond (sameTuple x σ) n 0 ≡ 0 → ⊥) → Pulling x σ n
-pulling x σ n some = go (sameTuple x σ) refl some
-  where
-    go : (b : Bool) → sameTuple x σ ≡ b → (cond b n 0 ≡ 0 → ⊥) → Pulling x σ n
-    go true e counts =
-        let abc = both (eqb (x .aux) (σ .aux) && eqb (x .left) (σ .left) && eqb (x .right) (σ .right)) (eqb (x .out) (σ .out)) (rw e tt) in
-        let ab = both (eqb (x .aux) (σ .aux) && eqb (x .left) (σ .left)) (eqb (x .right) (σ .right)) (abc .0) in
-        let a = both (eqb (x .aux) (σ .aux)) (eqb (x .left) (σ .left)) (ab .0) in
-        record {
-          aux = eqb→eq _ _ (a .0);
-          left = eqb→eq _ _ (a .1);
-          right = eqb→eq _ _ (ab .1);
-          out = eqb→eq _ _ (abc .1);
-          counts = counts;
-        }
-    go false e counts = absurd (counts refl)
+pulling x σ n some =
+    cases (sameTuple x σ) (λ e.
+    let (aux, (left, (right, out))) = each (eqb (x .aux) (σ .aux)) (eqb (x .left) (σ .left) ∷ eqb (x .right) (σ .right) ∷ eqb (x .out) (σ .out) ∷ []) e in
+    record {
+      aux = eqb-true _ _ aux;
+      left = eqb-true _ _ left;
+      right = eqb-true _ _ right;
+      out = eqb-true _ _ out;
+      counts = rw e at some;
+    })
+    (λ e. absurd (some (rw e)))
 
 -- legal at equal addresses
 moved : (g : Given) (op : Op) (be : Bool) (n : ℕ) {a a′ b b′ c c′ : ℕ} → a ≡ a′ → b ≡ b′ → c ≡ c′ → Legal g op be n a b c → Legal g op be n a′ b′ c′

@@ -2,10 +2,9 @@
 -- last row stays where it is.
 -- Assumes nothing.
 use mathlib.Core.Path.{_≡_}
-use Prim.Native.Nat.{ℕ, _+_, _-_, _<_, _≤_}
+use Prim.Native.Nat.{ℕ, _+_, _-_, _<_}
 use native.Mathlib.Numerals.{add-one}
 use native.Mathlib.Omega.{arith}
-use borrow.Author.Tests.{lt-ltb, le-ltb}
 use Rattle.answer.specs.declared.Answer.the-variants.{Accepted}
 use Rattle.machine.specs.Machine.{State}
 use Rattle.machine.specs.Step.{step, goes}
@@ -18,6 +17,7 @@ use Rattle.judge_spec.proofs.Exactly.{accepted-satisfies}
 use Rattle.run_steps.specs.Setting.{machineIn, stateOf, ExecWords}
 use Rattle.run_steps.proofs.Legal.{same-state}
 use Rattle.run_steps.proofs.Sound.{row-steps, row-pushes}
+use Rattle.run_groups.proofs.Pairs.{next-inner, next-last}
 use Rattle.run.proofs.Words.{exec-words, fit, ext-table, some-rows}
 use Rattle.run.proofs.Memory.{memory-holds}
 
@@ -30,12 +30,6 @@ rowState q r = stateOf (tablesOf q .exec r)
 
 abbrev pub lastRow : Parts → ℕ
 lastRow q = tablesOf q .height - 1
-
-inner : (n r : ℕ) → r + 1 < n → next n r ≡ r + 1
-inner n r h = rw (lt-ltb (r + 1) n h)
-
-last : (n r : ℕ) → n ≤ r + 1 → next n r ≡ r
-last n r h = rw (le-ltb (r + 1) n h)
 
 module _ (q : Parts) (s : Satisfies q) where
   words : (r : ℕ) → r < tablesOf q .height → ExecWords (tablesOf q .exec r)
@@ -56,8 +50,8 @@ module _ (q : Parts) (s : Satisfies q) where
       let some = some-rows q s in
       record {
         begins = same-state (s .start-pc) (s .start-fp);
-        steps = λ r h. rw (← add-one r) (steps-to r (r + 1) (omega arith) (omega arith) (inner (tablesOf q .height) r (omega arith)));
-        stays = steps-to (lastRow q) (lastRow q) (omega arith) (omega arith) (last (tablesOf q .height) (lastRow q) (omega arith));
+        steps = λ r h. rw (← add-one r) (steps-to r (r + 1) (omega arith) (omega arith) (next-inner (tablesOf q .height) r (omega arith)));
+        stays = steps-to (lastRow q) (lastRow q) (omega arith) (omega arith) (next-last (tablesOf q .height) (lastRow q) (omega arith));
       }
 
 -- an accepted table is one run

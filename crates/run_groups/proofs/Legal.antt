@@ -12,7 +12,7 @@ use Rattle.form.specs.declared.Op.{Op}
 use Rattle.form.specs.declared.Op.the-variants.{Add, Mul, Peq}
 use Rattle.rules.specs.Given.{Given}
 use Rattle.machine.specs.Extension.{elementAt, leftSpan, cellsExist, joined, nothing, result, sameElement}
-use Rattle.run_groups.proofs.Tests.{three, and-three, five, eqb-same}
+use Rattle.word.proofs.Tests.{apart, together, eqb-same}
 
 -- the cells of n elements at a and b and of the result at c exist, and the result is at c
 pub record Legal (g : Given) (op : Op) (be : Bool) (n a b c : ℕ) : Type 0 where
@@ -25,8 +25,8 @@ same-element x y e = rw e (simp eqb-same tt)
 equal-element : (x y : List ℕ) → IsElement y → T (sameElement (x ⟨ 0 ⟩ ∷ x ⟨ 1 ⟩ ∷ x ⟨ 2 ⟩ ∷ x ⟨ 3 ⟩ ∷ x ⟨ 4 ⟩ ∷ []) y)
     → x ⟨ 0 ⟩ ∷ x ⟨ 1 ⟩ ∷ x ⟨ 2 ⟩ ∷ x ⟨ 3 ⟩ ∷ x ⟨ 4 ⟩ ∷ [] ≡ y
 equal-element x y ey t =
-    let z = five (eqb (x ⟨ 0 ⟩) (y ⟨ 0 ⟩)) (eqb (x ⟨ 1 ⟩) (y ⟨ 1 ⟩)) (eqb (x ⟨ 2 ⟩) (y ⟨ 2 ⟩)) (eqb (x ⟨ 3 ⟩) (y ⟨ 3 ⟩)) (eqb (x ⟨ 4 ⟩) (y ⟨ 4 ⟩)) t in
-    (eqb→eq _ _ (z .0) ∷≡ eqb→eq _ _ (z .1) ∷≡ eqb→eq _ _ (z .2) ∷≡ eqb→eq _ _ (z .3) ∷≡ eqb→eq _ _ (z .4) ∷≡ refl)
+    let (z₀, (z₁, (z₂, (z₃, z₄)))) = apart (eqb (x ⟨ 0 ⟩) (y ⟨ 0 ⟩)) (eqb (x ⟨ 1 ⟩) (y ⟨ 1 ⟩) ∷ eqb (x ⟨ 2 ⟩) (y ⟨ 2 ⟩) ∷ eqb (x ⟨ 3 ⟩) (y ⟨ 3 ⟩) ∷ eqb (x ⟨ 4 ⟩) (y ⟨ 4 ⟩) ∷ []) t in
+    (eqb→eq _ _ z₀ ∷≡ eqb→eq _ _ z₁ ∷≡ eqb→eq _ _ z₂ ∷≡ eqb→eq _ _ z₃ ∷≡ eqb→eq _ _ z₄ ∷≡ refl)
     ∙ sym (its-words y (ey .five-long))
 
 nothing-element : (op : Op) → IsElement (nothing op)
@@ -55,17 +55,17 @@ module _ {g : Given} {op : Op} {be : Bool} {n a b c : ℕ} where
   legal f =
       record {
         exist =
-            and-three (leb (a + leftSpan be n) (g .size)) (leb (b + 5 * n) (g .size)) (leb (c + 5) (g .size)) (le→leb _ _ (f .left-exists))
-            (le→leb _ _ (f .right-exists)) (le→leb _ _ (f .out-exists));
+            together (leb (a + leftSpan be n) (g .size)) (leb (b + 5 * n) (g .size) ∷ leb (c + 5) (g .size) ∷ [])
+            (le→leb _ _ (f .left-exists), (le→leb _ _ (f .right-exists), le→leb _ _ (f .out-exists)));
         same = same-element _ _ (f .holds);
       }
 
   pub facts : Legal g op be n a b c → Facts g op be n a b c
   facts l =
-      let t = three (leb (a + leftSpan be n) (g .size)) (leb (b + 5 * n) (g .size)) (leb (c + 5) (g .size)) (l .exist) in
+      let (left, (right, out)) = apart (leb (a + leftSpan be n) (g .size)) (leb (b + 5 * n) (g .size) ∷ leb (c + 5) (g .size) ∷ []) (l .exist) in
       record {
-        left-exists = leb→le _ _ (t .0);
-        right-exists = leb→le _ _ (t .1);
-        out-exists = leb→le _ _ (t .2);
+        left-exists = leb→le _ _ left;
+        right-exists = leb→le _ _ right;
+        out-exists = leb→le _ _ out;
         holds = equal-element (elementAt (g .cell) c) _ (result-element (g .cell) op be a b 0 n) (l .same);
       }

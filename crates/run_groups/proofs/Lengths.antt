@@ -4,16 +4,16 @@
 use mathlib.Core.Path.{_≡_}
 use mathlib.Core.Logic.{_⊎_, inl, inr}
 use Prim.Native.Nat.{ℕ, zero, suc, _+_, _-_, _≤_, _<_, _^_}
-use native.Mathlib.Decide.{decLt}
 use native.Mathlib.Omega.{arith}
-use borrow.Author.Tests.{lt-ltb, le-ltb}
 use Rattle.word.specs.Word.{IsWord, _+ₚ_}
+use Rattle.word.proofs.Tests.{by-order}
 use Rattle.rows.specs.declared.Ext.{Ext}
 use Rattle.rules.specs.Given.{Given, next}
 use Rattle.rules.specs.Extension.{extRules}
 use Rattle.rules.specs.Satisfies.{All}
 use Rattle.run_groups.proofs.Meaning.{RowWords, IsBit, Meaning}
 use Rattle.run_groups.proofs.Read.{read}
+use Rattle.run_groups.proofs.Pairs.{next-inner, next-last, next-below}
 
 -- an extension table of K rows over a memory, on which every rule holds
 pub record ExtTable (g : Given) (K : ℕ) (ext : ℕ → Ext) : Type 0 where
@@ -21,12 +21,6 @@ pub record ExtTable (g : Given) (K : ℕ) (ext : ℕ → Ext) : Type 0 where
   pub small-memory : g .size ≤ 2 ^ 29
   pub words : (r : ℕ) → r < K → RowWords (ext r)
   pub rules : (r : ℕ) → r < K → All (extRules g (ext r) (ext (next K r)))
-
-next-last : (K r : ℕ) → r + 1 ≡ K → next K r ≡ r
-next-last K r e = rw (le-ltb (r + 1) K (omega arith))
-
-next-inner : (K r : ℕ) → r + 1 < K → next K r ≡ r + 1
-next-inner K r h = rw (lt-ltb (r + 1) K h)
 
 no-count : (x : ℕ) → IsWord x → x ≡ x +ₚ 1 → ⊥
 unfolding _+ₚ_
@@ -37,19 +31,12 @@ unfolding _+ₚ_
 count x y small e = omega arith
 
 module _ {g : Given} {K : ℕ} {ext : ℕ → Ext} (t : ExtTable g K ext) where
-  next-below : (r : ℕ) → r < K → next K r < K
-  next-below r h = go (decLt (r + 1) K)
-    where
-      go : Dec (r + 1 < K) → next K r < K
-      go (yes inner) = rw (next-inner K r inner) inner
-      go (no outer) = rw (next-last K r (omega arith)) h
-
   -- what a row and its pair say
   pub meaning : (r : ℕ) → r < K → Meaning g (ext r) (ext (next K r))
-  meaning r h = read g (ext r) (ext (next K r)) (t .small-memory) (t .words r h) (t .words (next K r) (next-below r h)) (t .rules r h)
+  meaning r h = read g (ext r) (ext (next K r)) (t .small-memory) (t .words r h) (t .words (next K r) (next-below K r h)) (t .rules r h)
 
   last-meaning : (r : ℕ) → r + 1 ≡ K → Meaning g (ext r) (ext r)
-  last-meaning r e = rw (next-last K r e) at (meaning r (omega arith))
+  last-meaning r e = rw (next-last K r (omega arith)) at (meaning r (omega arith))
 
   pub inner-meaning : (r : ℕ) → r + 1 < K → Meaning g (ext r) (ext (r + 1))
   inner-meaning r h = rw (next-inner K r h) at (meaning r (omega arith))
@@ -86,12 +73,10 @@ module _ {g : Given} {K : ℕ} {ext : ℕ → Ext} (t : ExtTable g K ext) where
 
   -- the row after a row starts a group, or is inside one
   pub ends-or-goes-on : (r : ℕ) → r < K → (ext (next K r) .start ≡ 1) ⊎ ((r + 1 < K) × (ext (r + 1) .start ≡ 0))
-  ends-or-goes-on r h = go (decLt (r + 1) K)
+  ends-or-goes-on r h = by-order (r + 1) K (λ below. inner below (meaning (r + 1) below .bits .start)) (λ end.
+      let last : r + 1 ≡ K = omega arith in
+      inl (rw (next-last K r end) (last-start r last)))
     where
       inner : (below : r + 1 < K) → IsBit (ext (r + 1) .start) → (ext (next K r) .start ≡ 1) ⊎ ((r + 1 < K) × (ext (r + 1) .start ≡ 0))
       inner below (inl z) = inr (below, z)
       inner below (inr one) = inl (rw (next-inner K r below) one)
-
-      go : Dec (r + 1 < K) → (ext (next K r) .start ≡ 1) ⊎ ((r + 1 < K) × (ext (r + 1) .start ≡ 0))
-      go (yes below) = inner below (meaning (r + 1) below .bits .start)
-      go (no outer) = let last : r + 1 ≡ K = omega arith in inl (rw (next-last K r last) (last-start r last))

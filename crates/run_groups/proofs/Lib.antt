@@ -1,8 +1,8 @@
-pub mod Tests
 pub mod Words
 pub mod Meaning
 pub mod Read
 pub mod Written
+pub mod Pairs
 pub mod Lengths
 pub mod Fold
 pub mod Legal

@@ -2,7 +2,7 @@
 -- Assumes nothing.
 use mathlib.Core.Path.{_≡_, refl, sym, _∙_}
 use mathlib.Core.Bool.{Bool, true, false}
-use mathlib.Core.List.{List}
+use mathlib.Core.List.{List, [], _∷_}
 use Prim.Native.Nat.{ℕ, _+_, _≤_, _<_, _^_}
 use native.Mathlib.Omega.{arith}
 use lib.Dec.{T, eqb, ltb, eqb→eq, ltb→lt, lit<}
@@ -20,7 +20,7 @@ use Rattle.rules.specs.Extension.{extRules, selected, compTail}
 use Rattle.rules.specs.Satisfies.{All}
 use Rattle.machine.specs.Extension.{termOf, joined}
 use Rattle.tables.specs.Groups.{leftIndex}
-use Rattle.run_groups.proofs.Tests.{both, five}
+use Rattle.word.proofs.Tests.{both, apart}
 use Rattle.run_groups.proofs.Words.{two-taken, one-factor, one-scale, equal-elements, two-elements-taken}
 use Rattle.run_groups.proofs.Meaning.{RowWords, FiveCells, IsBit, Looked, Bits, flagOf, restOf, GoesOn, Meaning}
 
@@ -32,21 +32,14 @@ one-cell g addr x t =
 
 five-cells : (g : Given) (addr : ℕ) (a : List ℕ) → IsElement a → T (looksUpFive g addr a) → FiveCells g addr a
 five-cells g addr a ea t =
-    let t =
-    five (looksUp g addr (a ⟨ 0 ⟩)) (looksUp g (addr + 1) (a ⟨ 1 ⟩)) (looksUp g (addr + 2) (a ⟨ 2 ⟩))
-    (looksUp g (addr + 3) (a ⟨ 3 ⟩)) (looksUp g (addr + 4) (a ⟨ 4 ⟩)) t
-    in
-    let last = one-cell g (addr + 4) (a ⟨ 4 ⟩) (t .4) in
+    let (t₀, (t₁, (t₂, (t₃, t₄)))) =
+    apart (looksUp g addr (a ⟨ 0 ⟩)) (looksUp g (addr + 1) (a ⟨ 1 ⟩) ∷ looksUp g (addr + 2) (a ⟨ 2 ⟩) ∷ looksUp g (addr + 3) (a ⟨ 3 ⟩) ∷ looksUp g (addr + 4) (a ⟨ 4 ⟩) ∷ []) t in
+    let last = one-cell g (addr + 4) (a ⟨ 4 ⟩) t₄ in
     record {
       exist = omega (arith, last .0);
       hold =
           its-words a (ea .five-long)
-          ∙ (one-cell g addr (a ⟨ 0 ⟩) (t .0) .1
-          ∷≡ one-cell g (addr + 1) (a ⟨ 1 ⟩) (t .1) .1
-          ∷≡ one-cell g (addr + 2) (a ⟨ 2 ⟩) (t .2) .1
-          ∷≡ one-cell g (addr + 3) (a ⟨ 3 ⟩) (t .3) .1
-          ∷≡ last .1
-          ∷≡ refl);
+          ∙ (one-cell g _ _ t₀ .1 ∷≡ one-cell g _ _ t₁ .1 ∷≡ one-cell g _ _ t₂ .1 ∷≡ one-cell g _ _ t₃ .1 ∷≡ last .1 ∷≡ refl);
     }
 
 -- 1 - next(start) is 1 inside a group

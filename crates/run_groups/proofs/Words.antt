@@ -1,7 +1,7 @@
 -- The laws of words and elements that the constraints of the extension table are read by.
 -- Assumes nothing.
 use mathlib.Core.Path.{_≡_, refl, sym, _∙_, ap}
-use mathlib.Core.List.{List}
+use mathlib.Core.List.{List, [], _∷_}
 use Prim.Native.Nat.{ℕ, _+_, _<_, _≤_}
 use native.Mathlib.Omega.{arith}
 use lib.Dec.{T, eqb→eq}
@@ -12,7 +12,7 @@ use Rattle.word.proofs.WordLaws.{difference-self, product-comm, product-zero, p
 use Rattle.word.proofs.ElementLaws.{its-words, five-words, element-sum-comm, element-sum-zero, scale-one, scale-zero}
 use Rattle.rules.specs.Given.{Given, zero?, zeroElement?}
 use Rattle.machine.specs.Extension.{elementAt}
-use Rattle.run_groups.proofs.Tests.{five, eq→eqb}
+use Rattle.word.proofs.Tests.{apart, eq→eqb}
 
 -- what is left of a word after two is 0 exactly where it is their sum
 pub two-taken : (x y z : ℕ) → IsWord x → x -ₚ y -ₚ z ≡ 0 → x ≡ y +ₚ z
@@ -38,9 +38,9 @@ second-zero f x z = eq→eqb (ap (λ (n : ℕ). f *ₚ n) z ∙ product-zero f)
 -- the same for a rule on elements
 zero-element : (a : List ℕ) → IsElement a → T (zeroElement? a) → a ≡ element 0
 zero-element a ea t =
-    let z = five (zero? (a ⟨ 0 ⟩)) (zero? (a ⟨ 1 ⟩)) (zero? (a ⟨ 2 ⟩)) (zero? (a ⟨ 3 ⟩)) (zero? (a ⟨ 4 ⟩)) t in
+    let (z₀, (z₁, (z₂, (z₃, z₄)))) = apart (zero? (a ⟨ 0 ⟩)) (zero? (a ⟨ 1 ⟩) ∷ zero? (a ⟨ 2 ⟩) ∷ zero? (a ⟨ 3 ⟩) ∷ zero? (a ⟨ 4 ⟩) ∷ []) t in
     its-words a (ea .five-long)
-    ∙ (eqb→eq _ 0 (z .0) ∷≡ eqb→eq _ 0 (z .1) ∷≡ eqb→eq _ 0 (z .2) ∷≡ eqb→eq _ 0 (z .3) ∷≡ eqb→eq _ 0 (z .4) ∷≡ refl)
+    ∙ (eqb→eq _ 0 z₀ ∷≡ eqb→eq _ 0 z₁ ∷≡ eqb→eq _ 0 z₂ ∷≡ eqb→eq _ 0 z₃ ∷≡ eqb→eq _ 0 z₄ ∷≡ refl)
 
 pub one-scale : (f : ℕ) (a : List ℕ) → f ≡ 1 → IsElement a → T (zeroElement? (f ·ₑ a)) → a ≡ element 0
 one-scale f a one ea t =

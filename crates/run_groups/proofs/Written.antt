@@ -3,7 +3,7 @@
 use mathlib.Core.Path.{_≡_, sym, ap}
 use mathlib.Core.Logic.{inl, inr}
 use mathlib.Core.Bool.{Bool, true, false}
-use mathlib.Core.List.{List}
+use mathlib.Core.List.{List, [], _∷_}
 use Prim.Native.Nat.{ℕ, _+_, _<_}
 use native.Mathlib.Omega.{arith}
 use lib.Dec.{T, eqb, ltb, lt→ltb}
@@ -16,8 +16,9 @@ use Rattle.rows.specs.declared.Ext.{Ext}
 use Rattle.rules.specs.Given.{Given, zero?, zeroElement?, looksUp, looksUpFive}
 use Rattle.rules.specs.Extension.{extRules}
 use Rattle.rules.specs.Satisfies.{All}
+use Rattle.machine.specs.Extension.{elementAt}
 use Rattle.tables.specs.Groups.{leftIndex}
-use Rattle.run_groups.proofs.Tests.{and, and-five, eq→eqb}
+use Rattle.word.proofs.Tests.{and, together, eq→eqb}
 use Rattle.run_groups.proofs.Words.{take-two, first-zero, second-zero, first-scale, second-scale, element-difference-self, take-two-elements}
 use Rattle.run_groups.proofs.Meaning.{FiveCells, IsBit, Meaning}
 
@@ -26,13 +27,11 @@ one-cell g addr x below e = and (ltb addr (g .size)) (eqb x (g .cell addr)) (lt�
 
 five-cells : (g : Given) (addr : ℕ) (a : List ℕ) → FiveCells g addr a → T (looksUpFive g addr a)
 five-cells g addr a f =
-    and-five (looksUp g addr (a ⟨ 0 ⟩)) (looksUp g (addr + 1) (a ⟨ 1 ⟩)) (looksUp g (addr + 2) (a ⟨ 2 ⟩))
-    (looksUp g (addr + 3) (a ⟨ 3 ⟩)) (looksUp g (addr + 4) (a ⟨ 4 ⟩))
-    (one-cell g addr (a ⟨ 0 ⟩) (omega arith) (ap (λ (l : List ℕ). l ⟨ 0 ⟩) (f .hold)))
-    (one-cell g (addr + 1) (a ⟨ 1 ⟩) (omega arith) (ap (λ (l : List ℕ). l ⟨ 1 ⟩) (f .hold)))
-    (one-cell g (addr + 2) (a ⟨ 2 ⟩) (omega arith) (ap (λ (l : List ℕ). l ⟨ 2 ⟩) (f .hold)))
-    (one-cell g (addr + 3) (a ⟨ 3 ⟩) (omega arith) (ap (λ (l : List ℕ). l ⟨ 3 ⟩) (f .hold)))
-    (one-cell g (addr + 4) (a ⟨ 4 ⟩) (omega arith) (ap (λ (l : List ℕ). l ⟨ 4 ⟩) (f .hold)))
+    together (looksUp g addr (a ⟨ 0 ⟩)) (looksUp g (addr + 1) (a ⟨ 1 ⟩) ∷ looksUp g (addr + 2) (a ⟨ 2 ⟩) ∷ looksUp g (addr + 3) (a ⟨ 3 ⟩) ∷ looksUp g (addr + 4) (a ⟨ 4 ⟩) ∷ [])
+    (one-cell g _ _ (omega arith) (hold 0), (one-cell g _ _ (omega arith) (hold 1), (one-cell g _ _ (omega arith) (hold 2), (one-cell g _ _ (omega arith) (hold 3), one-cell g _ _ (omega arith) (hold 4)))))
+  where
+    hold : (k : ℕ) → a ⟨ k ⟩ ≡ elementAt (g .cell) addr ⟨ k ⟩
+    hold k = ap (λ (l : List ℕ). l ⟨ k ⟩) (f .hold)
 
 is-bit : (x : ℕ) → IsBit x → T (zero? (x *ₚ (1 -ₚ x)))
 unfolding _*ₚ_ _-ₚ_

@@ -16,7 +16,7 @@ use Rattle.machine.specs.Extension.{elementAt, cellsExist, result, sameElement}
 use Rattle.machine.specs.Step.{Outcome, goes, asked, target, targetLegal, landing, jumps, performed, step}
 use Rattle.tables.specs.Rows.{formAt}
 use Rattle.run_steps.specs.Setting.{LegalOperands, ExtensionHolds, MemoryHolds}
-use Rattle.run_steps.proofs.Tests.{both, and, eq→eqb}
+use Rattle.word.proofs.Tests.{both, and, eq→eqb}
 
 -- two states with the same numbers are the same
 pub same-state : {s t : State} → s .pc ≡ t .pc → s .fp ≡ t .fp → s ≡ t

@@ -14,7 +14,7 @@ use Rattle.rules.specs.Given.{Given, zero?, looksUp}
 use Rattle.machine.specs.Machine.{State, address, value, legal}
 use Rattle.tables.specs.Rows.{column}
 use Rattle.run_steps.specs.Setting.{machineIn, Fit}
-use Rattle.run_steps.proofs.Tests.{both, and, eq→eqb}
+use Rattle.word.proofs.Tests.{both, and, eq→eqb}
 use Rattle.run_steps.proofs.Rules.{OperandRules}
 use Rattle.run_steps.proofs.Words.{says-equal, holds-off, holds-equal}
 

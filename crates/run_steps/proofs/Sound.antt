@@ -16,7 +16,7 @@ use Rattle.machine.specs.Machine.{Machine, State, value}
 use Rattle.machine.specs.Step.{goes, step}
 use Rattle.tables.specs.Rows.{formAt}
 use Rattle.run_steps.specs.Setting.{machineIn, stateOf, Fit, ExecWords, Selected, LegalOperands, ExtensionHolds, MemoryHolds, Pushes}
-use Rattle.run_steps.proofs.Tests.{is-true}
+use Rattle.word.proofs.Tests.{is-true}
 use Rattle.run_steps.proofs.Legal.{Does, goes-if}
 use Rattle.run_steps.proofs.Rules.{sorted}
 use Rattle.run_steps.proofs.Operands.{legal-operand}

@@ -7,7 +7,7 @@ use lib.Dec.{T, eqb→eq}
 use Rattle.word.specs.Word.{p, IsWord, _+ₚ_, _-ₚ_, _*ₚ_}
 use Rattle.word.proofs.WordLaws.{difference-word, difference-self, equal-words, product-comm, product-one, product-zero}
 use Rattle.rules.specs.Given.{zero?}
-use Rattle.run_steps.proofs.Tests.{eq→eqb}
+use Rattle.word.proofs.Tests.{eq→eqb}
 
 -- a product by 0 and by 1, as J is JUMP times a value
 pub off-times : {f : ℕ} (x : ℕ) → f ≡ 0 → f *ₚ x ≡ 0

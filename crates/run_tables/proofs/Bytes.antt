@@ -1,13 +1,11 @@
 -- The tables' bytes, read back, are their rows: rows of one width stand one after the other, and reading a row undoes writing it.
 -- Assumes nothing.
-use mathlib.Core.Path.{_≡_, refl}
-use mathlib.Core.Bool.{Bool, true, false}
+use mathlib.Core.Path.{_≡_}
 use mathlib.Core.List.{List, [], _++_, append-assoc, append-nil}
 use Prim.Native.Nat.{ℕ, zero, suc, _*_, _<_}
 use native.Mathlib.Omega.{arith}
-use borrow.Author.Tests.{ltb-true, ltb-false}
-use lib.Dec.{ltb}
 use lib.ListN.{length, length-append}
+use Rattle.word.proofs.Tests.{by-order}
 use Rattle.word.specs.Bytes.{concatenated}
 use Rattle.rows.specs.declared.Exec.{Exec}
 use Rattle.rows.specs.declared.Ext.{Ext}
@@ -34,16 +32,9 @@ rows-length row width sized (suc n) = omega (arith, length-append (concatenated 
 rows-split : (row : ℕ → List ℕ) (n r : ℕ) → r < n → (rest : List ℕ) × (concatenated row n ≡ concatenated row r ++ (row r ++ rest))
 unfolding concatenated
 rows-split row zero r h = absurd (omega arith)
-rows-split row (suc n) r h = go (ltb r n) refl (rows-split row n r)
-  where
-    go : (b : Bool) → ltb r n ≡ b → (r < n → (rest : List ℕ) × (concatenated row n ≡ concatenated row r ++ (row r ++ rest)))
-        → (rest : List ℕ) × (concatenated row n ++ row n ≡ concatenated row r ++ (row r ++ rest))
-    go true c earlier =
-        let e = earlier (ltb-true r n c) in
-        (e .0 ++ row n, rw (e .1) (simp append-assoc))
-    go false c earlier =
-        let last : r ≡ n = omega (arith, ltb-false r n c) in
-        ([], rw (last, append-nil))
+rows-split row (suc n) r h =
+    by-order r n (λ below. let e = rows-split row n r below in (e .0 ++ row n, rw (e .1) (simp append-assoc)))
+    (λ above. let last : r ≡ n = omega arith in ([], rw (last, append-nil)))
 
 exec-width : (x : Exec) → length (bytesOfWords (execWords x)) ≡ 32
 exec-width x = length-bytes (execWords x)

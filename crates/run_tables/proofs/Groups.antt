@@ -1,12 +1,10 @@
 -- The extension table of legal steps: inside a group a row is followed by the group's next row, at a group's end by a row that starts one,
 -- and padding by padding.
 -- Assumes nothing.
-use mathlib.Core.Path.{_≡_, refl, sym, _∙_}
-use mathlib.Core.Bool.{Bool, true, false, cond}
+use mathlib.Core.Path.{_≡_, sym, _∙_}
 use Prim.Native.Nat.{ℕ, suc, _+_, _≤_, _<_}
 use native.Mathlib.Omega.{arith}
-use borrow.Author.Tests.{ltb-true, ltb-false, lt-ltb}
-use lib.Dec.{ltb}
+use Rattle.word.proofs.Tests.{by-order}
 use Rattle.rows.specs.declared.Ext.{Ext}
 use Rattle.rules.specs.Given.{Given, next}
 use Rattle.rules.specs.Extension.{extRules}
@@ -15,28 +13,17 @@ use Rattle.machine.specs.Machine.{Machine, State}
 use Rattle.tables.specs.Groups.{lengthAt, extRowOf, filled}
 use Rattle.run_steps.specs.Setting.{machineIn, Fit}
 use Rattle.run_groups.proofs.Meaning.{RowWords}
+use Rattle.run_groups.proofs.Pairs.{next-inner, next-later}
 use Rattle.run_groups.proofs.Padding.{padding-words, padding-rules, padding-start}
 use Rattle.run_tables.proofs.Places.{Where, filled-on, filled-grows, find, row-of, row-past}
 use Rattle.run_tables.proofs.Places.Where.{group, past}
 use Rattle.run_tables.proofs.Steps.{Calls, step-starts, step-words, step-inside, step-seam}
 
-next-later : (n r : ℕ) → r ≤ next n r
-next-later n r = go (ltb (r + 1) n)
-  where
-    go : (b : Bool) → r ≤ cond b (r + 1) r
-    go true = omega arith
-    go false = omega arith
-
-next-inside : (n r : ℕ) → r + 1 < n → next n r ≡ r + 1
-next-inside n r h = rw (lt-ltb (r + 1) n h)
-
 -- a row that lies where a group ends, or where the first one starts, is the first of its own
 first-there : (m : Machine) (state : ℕ → State) (r r' j : ℕ) → j < lengthAt m (state r') → filled m state r ≡ filled m state r' + j → j ≡ 0
-first-there m state r r' j l e = go (ltb r' r) refl
-  where
-    go : (b : Bool) → ltb r' r ≡ b → j ≡ 0
-    go true c = absurd (omega (arith, filled-on m state r', filled-grows m state (suc r') r (ltb-true r' r c)))
-    go false c = omega (arith, filled-grows m state r r' (ltb-false r' r c))
+first-there m state r r' j l e =
+    by-order r' r (λ below. absurd (omega (arith, filled-on m state r', filled-grows m state (suc r') r below)))
+    (λ above. omega (arith, filled-grows m state r r' above))
 
 module _ (g : Given) (state : ℕ → State) (height : ℕ) where
   -- so it starts a group, or is padding
@@ -64,17 +51,15 @@ module _ (g : Given) (state : ℕ → State) (height : ℕ) where
         ext : ℕ → Ext
         ext = extRowOf (machineIn g) state 0 height
 
-        within : (r j : ℕ) → r < height → j < lengthAt (machineIn g) (state r) → k ≡ filled (machineIn g) state r + j → (b : Bool)
-            → ltb (j + 1) (lengthAt (machineIn g) (state r)) ≡ b → All (extRules g (ext k) (ext (k + 1)))
-        within r j h l e true c =
-            let more = ltb-true _ _ c in
+        within : (r j : ℕ) → r < height → j < lengthAt (machineIn g) (state r) → k ≡ filled (machineIn g) state r + j → All (extRules g (ext k) (ext (k + 1)))
+        within r j h l e =
+            by-order (j + 1) (lengthAt (machineIn g) (state r))
+            (λ more.
             rw (row-of (machineIn g) state height k r j h l e, row-of (machineIn g) state height (k + 1) r (j + 1) h more (omega arith))
-            (step-inside g (state r) (calls r h) j more)
-        within r j h l e false c =
-            let last : lengthAt (machineIn g) (state r) ≤ j + 1 = ltb-false _ _ c in
-            let end : j + 1 ≡ lengthAt (machineIn g) (state r) = omega arith in
+            (step-inside g (state r) (calls r h) j more))
+            (λ last.
             rw (row-of (machineIn g) state height k r j h l e)
-            (step-seam g (state r) (calls r h) j end _ (seam-starts (suc r) (k + 1) (omega (arith, filled-on (machineIn g) state r))))
+            (step-seam g (state r) (calls r h) j (omega arith) _ (seam-starts (suc r) (k + 1) (omega (arith, filled-on (machineIn g) state r)))))
 
         go : Where (machineIn g) state height k → All (extRules g (ext k) (ext (next extHeight k)))
         go (past h) =
@@ -83,4 +68,4 @@ module _ (g : Given) (state : ℕ → State) (height : ℕ) where
             (rw (row-past (machineIn g) state height (next extHeight k) (omega (arith, next-later extHeight k))) (padding-start (g .cell))))
         go (group r j h l e) =
             let inside : k + 1 < extHeight = omega (arith, filled-on (machineIn g) state r, filled-grows (machineIn g) state (suc r) height h) in
-            rw (next-inside extHeight k inside) (within r j h l e _ refl)
+            rw (next-inner extHeight k inside) (within r j h l e)

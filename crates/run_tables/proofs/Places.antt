@@ -2,12 +2,11 @@
 -- By induction on the steps left.
 -- Assumes nothing.
 use mathlib.Core.Path.{_≡_, refl, ap, ap₂}
-use mathlib.Core.Bool.{Bool, true, false}
 use Prim.Native.Nat.{ℕ, zero, suc, _+_, _-_, _≤_, _<_}
 use native.Mathlib.Nat.{add-zero, add-suc}
 use native.Mathlib.Omega.{arith}
-use borrow.Author.Tests.{ltb-true, ltb-false, lt-ltb, le-ltb}
-use lib.Dec.{ltb}
+use borrow.Author.Tests.{lt-ltb, le-ltb}
+use Rattle.word.proofs.Tests.{by-order}
 use Rattle.machine.specs.Machine.{Machine, State}
 use Rattle.tables.specs.Groups.{padding, lengthAt, stepRow, extRowOf, filled}
 
@@ -36,38 +35,31 @@ module _ (m : Machine) (state : ℕ → State) where
 
   pub find : (height k : ℕ) → Where m state height k
   find zero k = past (omega (arith, filled-none))
-  find (suc n) k = go (ltb k (filled m state n)) (ltb k (filled m state (suc n))) refl refl (find n k)
+  find (suc n) k =
+      by-order k (filled m state (suc n))
+      (λ high.
+      by-order k (filled m state n) (λ low. earlier low (find n k))
+      (λ low. group n (k - filled m state n) (omega arith) (omega (arith, filled-on n)) (omega arith)))
+      past
     where
-      go : (b c : Bool) → ltb k (filled m state n) ≡ b → ltb k (filled m state (suc n)) ≡ c → Where m state n k → Where m state (suc n) k
-      go b false eb ec w = past (ltb-false _ _ ec)
-      go false true eb ec w =
-          let low : filled m state n ≤ k = ltb-false _ _ eb in
-          let high : k < filled m state (suc n) = ltb-true _ _ ec in
-          group n (k - filled m state n) (omega arith) (omega (arith, filled-on n)) (omega arith)
-      go true true eb ec (group r j h l e) = group r j (omega arith) l e
-      go true true eb ec (past h) =
-          let low : k < filled m state n = ltb-true _ _ eb in
-          absurd (omega arith)
+      earlier : k < filled m state n → Where m state n k → Where m state (suc n) k
+      earlier low (group r j h l e) = group r j (omega arith) l e
+      earlier low (past h) = absurd (omega arith)
 
   row-there : (n r k r' j : ℕ) → r ≤ r' → r' < r + n → j < lengthAt m (state r') → filled m state r + k ≡ filled m state r' + j
       → extRowOf m state r n k ≡ stepRow m (state r') j
   unfolding extRowOf
   row-there zero r k r' j low high l e = absurd (omega arith)
   row-there (suc n) r k r' j low high l e =
-      go (ltb r r') refl (λ lt d. row-there n (suc r) (k - lengthAt m (state r)) r' j lt (omega arith) l (omega (arith, filled-on r)))
-    where
-      go : (b : Bool) → ltb r r' ≡ b
-          → (r < r' → lengthAt m (state r) ≤ k → extRowOf m state (suc r) n (k - lengthAt m (state r)) ≡ stepRow m (state r') j)
-          → extRowOf m state r (suc n) k ≡ stepRow m (state r') j
-      go true c later =
-          let lt : r < r' = ltb-true r r' c in
-          let d : lengthAt m (state r) ≤ k = omega (arith, filled-on r, filled-grows (suc r) r' lt) in
-          rw (le-ltb k (lengthAt m (state r)) d) (later lt d)
-      go false c later =
-          let same : r ≡ r' = omega (arith, ltb-false r r' c) in
-          let i : k ≡ j = omega (arith, ap (filled m state) same) in
-          let d : k < lengthAt m (state r) = omega (arith, ap (λ (x : ℕ). lengthAt m (state x)) same) in
-          rw (lt-ltb k (lengthAt m (state r)) d) (ap₂ (λ (x y : ℕ). stepRow m (state x) y) same i)
+      by-order r r'
+      (λ lt.
+      let d : lengthAt m (state r) ≤ k = omega (arith, filled-on r, filled-grows (suc r) r' lt) in
+      rw (le-ltb k (lengthAt m (state r)) d) (row-there n (suc r) (k - lengthAt m (state r)) r' j lt (omega arith) l (omega (arith, filled-on r))))
+      (λ ge.
+      let same : r ≡ r' = omega arith in
+      let i : k ≡ j = omega (arith, ap (filled m state) same) in
+      let d : k < lengthAt m (state r) = omega (arith, ap (λ (x : ℕ). lengthAt m (state x)) same) in
+      rw (lt-ltb k (lengthAt m (state r)) d) (ap₂ (λ (x y : ℕ). stepRow m (state x) y) same i))
 
   row-beyond : (n r k : ℕ) → filled m state (r + n) ≤ filled m state r + k → extRowOf m state r n k ≡ padding (m .cell)
   unfolding extRowOf

@@ -1,17 +1,15 @@
 -- The constraints read only the rows below the heights: tables that agree there satisfy them alike.
 -- Assumes nothing.
-use mathlib.Core.Path.{_≡_, refl, sym, _∙_, ap, subst₂}
-use mathlib.Core.Bool.{Bool, true, false, cond}
-use Prim.Native.Nat.{ℕ, _+_, _<_}
+use mathlib.Core.Path.{_≡_, sym, _∙_, ap, subst₂}
+use Prim.Native.Nat.{ℕ, _<_}
 use native.Mathlib.Omega.{arith}
-use borrow.Author.Tests.{ltb-true}
-use lib.Dec.{ltb}
 use Rattle.rows.specs.declared.Exec.{Exec}
 use Rattle.rows.specs.declared.Ext.{Ext}
 use Rattle.rules.specs.Given.{Given, Tables, next}
 use Rattle.rules.specs.Execution.{execRules}
 use Rattle.rules.specs.Extension.{extRules}
 use Rattle.rules.specs.Satisfies.{All, Constraints}
+use Rattle.run_groups.proofs.Pairs.{next-below}
 use Rattle.run_tables.proofs.Totals.{total-same}
 use Rattle.run_tables.proofs.Steps.{pulledBy, pushedBy}
 
@@ -20,13 +18,6 @@ pub record SameRows (t u : Tables) : Type 0 where
   pub exec : (r : ℕ) → r < t .height → u .exec r ≡ t .exec r
   pub extHeight : u .extHeight ≡ t .extHeight
   pub ext : (k : ℕ) → k < t .extHeight → u .ext k ≡ t .ext k
-
-next-below : (n r : ℕ) → r < n → next n r < n
-next-below n r h = go (ltb (r + 1) n) refl
-  where
-    go : (b : Bool) → ltb (r + 1) n ≡ b → cond b (r + 1) r < n
-    go true c = ltb-true (r + 1) n c
-    go false c = h
 
 pub constraints-same : (g : Given) (t u : Tables) → SameRows t u → Constraints g t → Constraints g u
 constraints-same g t u same c =

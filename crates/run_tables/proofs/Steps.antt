@@ -1,9 +1,10 @@
 -- What a legal step gives: by its kind, a group whose rows meet the rules and pull what the step pushes, or no row and no push.
 -- Assumes nothing.
 use mathlib.Core.Path.{_≡_, refl, sym, _∙_, ap₂}
-use mathlib.Core.Bool.{Bool, true, false, cond}
+use mathlib.Core.Bool.{Bool, cond}
 use Prim.Native.Nat.{ℕ, _+_, _<_}
 use native.Mathlib.Omega.{arith}
+use Rattle.word.proofs.Tests.{by-test}
 use Rattle.form.specs.declared.Instruction.{Instruction}
 use Rattle.form.specs.declared.Op.{Op}
 use Rattle.form.specs.declared.Kind.{Kind}
@@ -33,11 +34,7 @@ abbrev pub pushedBy : Given → Tuple → Exec → ℕ
 pushedBy g σ x = counted σ (pushed (g .instruction (x .pc)) x) (pushes (g .instruction (x .pc)))
 
 pub counts-none : (σ τ : Tuple) (n : ℕ) → n ≡ 0 → counted σ τ n ≡ 0
-counts-none σ τ n e = go (sameTuple τ σ)
-  where
-    go : (b : Bool) → cond b n 0 ≡ 0
-    go true = e
-    go false = refl
+counts-none σ τ n e = by-test (λ (k : ℕ). k ≡ 0) (sameTuple τ σ) (λ _. e) (λ _. refl)
 
 -- an extension's group is one of a legal call
 abbrev CallsBy : Given → State → Kind → Type 0

@@ -1,13 +1,13 @@
 -- Demand 3's converse: the tables of a legal run that stays satisfy the constraints. By induction over rows each state is made of words, so
 -- each execution row meets its rules beside the next, and its step's group, if any, those of the extension table.
 -- Assumes nothing.
-use mathlib.Core.Path.{_≡_, refl, _∙_}
-use mathlib.Core.Bool.{Bool, true, false, cond}
-use Prim.Native.Nat.{ℕ, zero, suc, _+_, _-_, _≤_, _<_}
+use mathlib.Core.Path.{_≡_, _∙_}
+use Prim.Native.Nat.{ℕ, zero, suc, _+_, _-_, _<_}
 use native.Mathlib.Numerals.{add-one}
 use native.Mathlib.Omega.{arith}
 use borrow.Author.Tests.{ltb-true, ltb-false}
 use lib.Dec.{ltb}
+use Rattle.word.proofs.Tests.{by-test}
 use Rattle.word.specs.Word.{IsWord}
 use Rattle.rules.specs.Given.{Given, next}
 use Rattle.rules.specs.Execution.{execRules}
@@ -26,16 +26,10 @@ use Rattle.run_tables.proofs.Bus.{balanced-bus}
 
 module _ {g : Given} {start : State} {height extHeight : ℕ} {state : ℕ → State} (w : Writable g start height extHeight state) where
   steps-on : (r : ℕ) → r < height → step (machineIn g) (state r) ≡ goes (state (next height r))
-  steps-on r h = go (ltb (r + 1) height) refl
-    where
-      go : (b : Bool) → ltb (r + 1) height ≡ b → step (machineIn g) (state r) ≡ goes (state (cond b (r + 1) r))
-      go true c =
-          let more : r + 1 < height = ltb-true _ _ c in
-          rw (add-one r) (w .run .steps r (omega arith))
-      go false c =
-          let end : height ≤ r + 1 = ltb-false _ _ c in
-          let last : r ≡ height - 1 = omega arith in
-          rw last (w .run .stays)
+  steps-on r h =
+      by-test (λ (k : ℕ). step (machineIn g) (state r) ≡ goes (state k)) (ltb (r + 1) height)
+      (λ t. let more = ltb-true (r + 1) height t in rw (add-one r) (w .run .steps r (omega arith)))
+      (λ t. let end = ltb-false (r + 1) height t in let last : r ≡ height - 1 = omega arith in rw last (w .run .stays))
 
   frames : (r : ℕ) → r < height → IsWord (state r .fp)
   frames zero h = rw (w .run .begins) (w .frame)

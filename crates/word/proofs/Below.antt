@@ -1,28 +1,20 @@
--- Tests that are all passed.
+-- Words that are all below a bound, from the tests.
 -- Assumes nothing.
-use mathlib.Core.Path.{_≡_, refl}
-use mathlib.Core.Bool.{Bool, true, false, _&&_}
+use mathlib.Core.Path.{_≡_}
+use mathlib.Core.Bool.{true, _&&_}
+use mathlib.Core.List.{[], _∷_}
 use Prim.Native.Nat.{ℕ, _<_}
-use native.Mathlib.Omega.{arith}
 use lib.Dec.{ltb}
 use borrow.Author.Tests.{ltb-true}
-
--- any two tests
-pub both : (a b : Bool) → a && b ≡ true → (a ≡ true) × (b ≡ true)
-both true b e = (refl, e)
-both false b e = let z : _≡_ {A = ℕ} 0 1 = cc e in absurd (omega arith)
+use Rattle.word.proofs.Tests.{each}
 
 pub both-below : (x y n : ℕ) → ltb x n && ltb y n ≡ true → (x < n) × (y < n)
 both-below x y n e =
-    let passed = both (ltb x n) (ltb y n) e in
-    (ltb-true x n (passed .0), ltb-true y n (passed .1))
+    let (a, b) = each (ltb x n) (ltb y n ∷ []) e in
+    (ltb-true x n a, ltb-true y n b)
 
--- five tests, joined from the left
-pub five-below : (x₀ x₁ x₂ x₃ x₄ n : ℕ) → (((ltb x₀ n && ltb x₁ n) && ltb x₂ n) && ltb x₃ n) && ltb x₄ n ≡ true
+pub five-below : (x₀ x₁ x₂ x₃ x₄ n : ℕ) → ltb x₀ n && ltb x₁ n && ltb x₂ n && ltb x₃ n && ltb x₄ n ≡ true
     → (x₀ < n) × (x₁ < n) × (x₂ < n) × (x₃ < n) × (x₄ < n)
 five-below x₀ x₁ x₂ x₃ x₄ n e =
-    let last = both (((ltb x₀ n && ltb x₁ n) && ltb x₂ n) && ltb x₃ n) (ltb x₄ n) e in
-    let next = both ((ltb x₀ n && ltb x₁ n) && ltb x₂ n) (ltb x₃ n) (last .0) in
-    let third = both (ltb x₀ n && ltb x₁ n) (ltb x₂ n) (next .0) in
-    let two = both-below x₀ x₁ n (third .0) in
-    (two .0, two .1, ltb-true x₂ n (third .1), ltb-true x₃ n (next .1), ltb-true x₄ n (last .1))
+    let (a, (b, (c, (d, f)))) = each (ltb x₀ n) (ltb x₁ n ∷ ltb x₂ n ∷ ltb x₃ n ∷ ltb x₄ n ∷ []) e in
+    (ltb-true x₀ n a, ltb-true x₁ n b, ltb-true x₂ n c, ltb-true x₃ n d, ltb-true x₄ n f)

@@ -6,4 +6,5 @@ pub mod Primality
 pub mod WordLaws
 pub mod ElementLaws
 pub mod Part
+pub mod Tests
 pub mod Below

@@ -2,13 +2,14 @@
 -- Assumes nothing.
 use borrow.Author.Needs.{needs}
 use Rattle.word.specs.Element.{_*ₑ_}
-use Rattle.word.proofs.Below.{both}
+use mathlib.Core.List.{[], _∷_}
+use Rattle.word.proofs.Tests.{each}
 use Rattle.element.proofs.fold.product.Statement.{statement}
 use Rattle.element.proofs.fold.product.Tie as tie
 
 direct-requires : tie.Need-direct-requires
 direct-requires c κs =
-    let passed = both _ _ (c .if1 .taken) in
+    let passed = each _ (_ ∷ []) (c .if1 .taken) in
     (c .before .before .words .ensures (passed .0), c .before .words2 .ensures (passed .1))
 
 returns-2 : tie.Need-returns-2

@@ -1,12 +1,11 @@
--- One test covers the 48 bytes; each four is then what its call read.
+-- Each word is the one that its call read.
 use borrow.Author.Needs.{needs}
-use mathlib.Core.Path.{_∙_}
-use Rattle.form.proofs.Fours.{of-fours}
+use Rattle.form.proofs.Part.{instruction-made}
 use Rattle.form.proofs.words.instruction_inside.Statement.{statement}
 use Rattle.form.proofs.words.instruction_inside.Tie as tie
 
 returns : tie.Need-returns
-returns c = c .named .ensures ∙ of-fours _ _ (c .before .before .before .four-inside .ensures) (c .before .before .four-inside2 .ensures) (c .before .four-inside3 .ensures)
+returns c = instruction-made _ _ (c .before .before .before .before .before .before .before .before .before .before .before .word-inside .ensures) (c .before .before .before .before .before .before .before .before .before .before .word-inside2 .ensures) (c .before .before .before .before .before .before .before .before .before .word-inside3 .ensures) (c .before .before .before .before .before .before .before .before .word-inside4 .ensures) (c .before .before .before .before .before .before .before .word-inside5 .ensures) (c .before .before .before .before .before .before .word-inside6 .ensures) (c .before .before .before .before .before .word-inside7 .ensures) (c .before .before .before .before .word-inside8 .ensures) (c .before .before .before .word-inside9 .ensures) (c .before .before .word-inside10 .ensures) (c .before .word-inside11 .ensures) (c .word-inside12 .ensures)
 
 pub instruction-inside-spec : {M : Type 1} → statement M
 instruction-inside-spec =
@@ -17,5 +16,22 @@ instruction-inside-spec =
     (λ c κs. search needs)
     (λ c. search needs)
     (λ c κs. search needs)
+    (λ c. search needs)
+    (λ c κs. search needs)
+    (λ c. search needs)
+    (λ c κs. search needs)
+    (λ c. search needs)
+    (λ c κs. search needs)
+    (λ c. search needs)
+    (λ c κs. search needs)
+    (λ c. search needs)
+    (λ c κs. search needs)
+    (λ c. search needs)
+    (λ c κs. search needs)
+    (λ c. search needs)
+    (λ c κs. search needs)
+    (λ c. search needs)
+    (λ c κs. search needs)
+    (λ c. search needs)
     (λ c κs. search needs)
     returns)

@@ -1,7 +1,7 @@
 -- The tests that led to a return pick the same mode in `operandOf`.
 use borrow.Author.Tests.{ne-eqb}
-use Rattle.form.proofs.operand_of.Statement.{statement}
-use Rattle.form.proofs.operand_of.Tie as tie
+use Rattle.form.proofs.known.operand_of.Statement.{statement}
+use Rattle.form.proofs.known.operand_of.Tie as tie
 
 returns : tie.Need-returns
 returns c = rw (c .if1 .taken)

@@ -1,0 +1,125 @@
+/* What is timed: the calls of both implementations, on one set of buffers. */
+#include "calls.h"
+
+#include <stdio.h>
+#include <stdlib.h>
+
+#include "../differ/library.h"
+#include "../second/second.h"
+
+static uint8_t answer[16], recipe[16];
+
+void expect(uint32_t verdict, uint32_t wanted, const char *what)
+{
+    if (verdict != wanted) {
+        printf("%s has another answer: verdict %u, part %u, place %u, rule %u\n", what, answer[0], answer[4], answer[8], answer[12]);
+        exit(1);
+    }
+}
+
+static void put_word(uint8_t *at, uint32_t word)
+{
+    for (int k = 0; k < 4; k++)
+        at[k] = (uint8_t)(word >> 8 * k);
+}
+
+/* the second implementation's answer in 16 bytes, as the library's calls fill them */
+static uint32_t told(second_answer a)
+{
+    put_word(answer, a.verdict);
+    put_word(answer + 4, a.part);
+    put_word(answer + 8, a.place);
+    put_word(answer + 12, a.rule);
+    return a.verdict;
+}
+
+uint32_t library_judge(job *j)
+{
+    speed_input *in = j->in;
+    return uisnabar_judge(in->program, in->program_len, in->memory, in->memory_len, 0, 0, in->exec, in->exec_len, j->ext, in->ext_len,
+                          answer, sizeof answer);
+}
+
+uint32_t second_judges(job *j)
+{
+    speed_input *in = j->in;
+    return told(second_judge(in->program, in->program_len, in->memory, in->memory_len, 0, 0, in->exec, in->exec_len, j->ext, in->ext_len));
+}
+
+uint32_t second_sorts(job *j)
+{
+    speed_input *in = j->in;
+    return told(second_judge_sorted(in->program, in->program_len, in->memory, in->memory_len, 0, 0, in->exec, in->exec_len, j->ext,
+                                    in->ext_len));
+}
+
+uint32_t library_table(job *j)
+{
+    speed_input *in = j->in;
+    return probe_table(in->program, in->program_len, in->memory, in->memory_len, 0, 0, in->exec, in->exec_len, in->ext, in->ext_len,
+                       answer, sizeof answer);
+}
+
+uint32_t second_tables(job *j)
+{
+    speed_input *in = j->in;
+    return told(second_table(in->program, in->program_len, in->memory, in->memory_len, 0, 0, in->exec, in->exec_len, in->ext, in->ext_len));
+}
+
+uint32_t library_make(job *j)
+{
+    speed_input *in = j->in;
+    return probe_make(j->seed, j->m, j->n, in->program, 48 * (j->n + 1), in->memory, (size_t)4 << j->m, answer, sizeof answer);
+}
+
+uint32_t second_makes(job *j)
+{
+    speed_input *in = j->in;
+    second_recipe r = {j->seed, j->m, j->n};
+    return told(second_make(r, in->program, 48 * (j->n + 1), in->memory, (size_t)4 << j->m));
+}
+
+/* labels of every seed in turn, so that no call can be left out */
+static void next_seed(job *j)
+{
+    j->text[10 + j->seed % 15] = (uint8_t)('0' + j->seed % 10);
+    j->seed++;
+}
+
+uint32_t library_label(job *j)
+{
+    next_seed(j);
+    return uisnabar_label(j->text, j->text_len, answer, sizeof answer, recipe, sizeof recipe);
+}
+
+uint32_t second_label(job *j)
+{
+    second_recipe r;
+    next_seed(j);
+    second_answer a = second_read_label(j->text, j->text_len, &r);
+    put_word(recipe, (uint32_t)r.seed);
+    put_word(recipe + 4, (uint32_t)(r.seed >> 32));
+    put_word(recipe + 8, r.m);
+    put_word(recipe + 12, r.n);
+    return told(a);
+}
+
+/* a recipe made, tabled and judged at H = K = 256, another seed each time */
+uint32_t library_whole(job *j)
+{
+    j->seed++;
+    uint32_t made = library_make(j), tabled = library_table(j);
+    return made | tabled | library_judge(j);
+}
+
+uint32_t second_whole(job *j)
+{
+    j->seed++;
+    uint32_t made = second_makes(j), tabled = second_tables(j);
+    return made | tabled | second_judges(j);
+}
+
+size_t write_label(job *j, uint32_t n)
+{
+    return probe_write(0x0123456789abcdef, 10, n, j->text, sizeof j->text, answer, sizeof answer);
+}

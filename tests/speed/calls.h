@@ -1,0 +1,40 @@
+#ifndef CALLS_H
+#define CALLS_H
+
+#include <stddef.h>
+#include <stdint.h>
+
+#include "inputs.h"
+
+typedef struct {
+    speed_input *in;
+    const uint8_t *ext; /* the extension table that is judged */
+    uint64_t seed;
+    uint32_t m, n;
+    uint8_t text[64]; /* a label */
+    size_t text_len;
+    size_t calls;    /* so many calls are timed as one */
+    uint32_t wanted; /* the verdict that each must give */
+} job;
+
+typedef uint32_t (*call)(job *j);
+
+/* Ends the program where a verdict is another than was wanted. */
+void expect(uint32_t verdict, uint32_t wanted, const char *what);
+
+/* The label of a recipe with m 10 in `text`; its length. */
+size_t write_label(job *j, uint32_t n);
+
+uint32_t library_judge(job *j);
+uint32_t second_judges(job *j);
+uint32_t second_sorts(job *j);
+uint32_t library_table(job *j);
+uint32_t second_tables(job *j);
+uint32_t library_make(job *j);
+uint32_t second_makes(job *j);
+uint32_t library_label(job *j);
+uint32_t second_label(job *j);
+uint32_t library_whole(job *j);
+uint32_t second_whole(job *j);
+
+#endif

@@ -1,0 +1,108 @@
+/* The stack that each exported function uses: the most over calls that take each of its ways, on a thread whose stack was painted before. */
+#define _DEFAULT_SOURCE
+#include <inttypes.h>
+#include <pthread.h>
+#include <stdbool.h>
+#include <stdio.h>
+#include <stdlib.h>
+#include <string.h>
+#include <sys/mman.h>
+
+#include "../differ/library.h"
+#include "../speed/inputs.h"
+
+enum { ROOM = 256 << 10, PAINT = 0xa5, GROUP = 4 * 120, CUSTOMERS = 24 << 10 };
+
+static uint8_t *stack;
+static speed_input in;
+static uint8_t answer[16], recipe[16], text[64];
+
+static void *nothing(void *ext)
+{
+    return ext;
+}
+
+static void *judge(void *ext)
+{
+    uisnabar_judge(in.program, in.program_len, in.memory, in.memory_len, 0, 0, in.exec, in.exec_len, ext, in.ext_len, answer, sizeof answer);
+    return NULL;
+}
+
+static void *label(void *unused)
+{
+    uisnabar_label(text, probe_write(~UINT64_C(0), 29, 124, text, sizeof text, answer, sizeof answer), answer, sizeof answer, recipe,
+                   sizeof recipe);
+    return unused;
+}
+
+static void *writer(void *unused)
+{
+    probe_write(~UINT64_C(0), 29, 124, text, sizeof text, answer, sizeof answer);
+    return unused;
+}
+
+static void *tabler(void *unused)
+{
+    probe_table(in.program, in.program_len, in.memory, in.memory_len, 0, 0, in.exec, in.exec_len, in.ext, in.ext_len, answer, sizeof answer);
+    return unused;
+}
+
+static void *maker(void *unused)
+{
+    static uint8_t program[48 * 125], memory[4 << 10];
+    probe_make(1, 10, 124, program, sizeof program, memory, sizeof memory, answer, sizeof answer);
+    return unused;
+}
+
+/* How many bytes from the stack's top on a thread with this work touched. */
+static size_t touched(void *(*work)(void *), void *with)
+{
+    pthread_attr_t attributes;
+    pthread_t thread;
+    memset(stack, PAINT, ROOM);
+    if (pthread_attr_init(&attributes) != 0 || pthread_attr_setstack(&attributes, stack, ROOM) != 0
+        || pthread_create(&thread, &attributes, work, with) != 0 || pthread_join(thread, NULL) != 0)
+        exit(2);
+    pthread_attr_destroy(&attributes);
+    size_t at = 0;
+    while (at < ROOM && stack[at] == PAINT)
+        at++;
+    return ROOM - at;
+}
+
+static size_t most(size_t a, size_t b)
+{
+    return a > b ? a : b;
+}
+
+/* Tables in order, in another order, and with one group in the place of another, so that the bus takes every way. */
+static size_t of_judge(void)
+{
+    size_t used = touched(judge, in.ext);
+    speed_shuffle(&in, 2);
+    used = most(used, touched(judge, in.shuffled));
+    memcpy(in.shuffled + (size_t)GROUP * 900, in.shuffled + (size_t)GROUP * 1200, GROUP);
+    return most(used, touched(judge, in.shuffled));
+}
+
+static void line(const char *name, size_t used, size_t start)
+{
+    printf("%s: %zu bytes of stack\n", name, used - start);
+}
+
+int main(void)
+{
+    stack = mmap(NULL, ROOM, PROT_READ | PROT_WRITE, MAP_PRIVATE | MAP_ANONYMOUS, -1, 0);
+    if (stack == MAP_FAILED)
+        return 2;
+    in = speed_build(15, 13, 17, 1);
+    size_t start = touched(nothing, NULL);
+    line("tabler", touched(tabler, NULL), start);
+    size_t judged = of_judge();
+    line("uisnabar_judge", judged, start);
+    line("uisnabar_label", touched(label, NULL), start);
+    line("label writer", touched(writer, NULL), start);
+    line("maker", touched(maker, NULL), start);
+    speed_free(&in);
+    return judged - start <= CUSTOMERS ? 0 : 1;
+}
