@@ -115,8 +115,8 @@ module _ {ext : List ℕ} {span rounds class : ℕ} {lo hi : List ℕ} {k : ℕ}
   abbrev pullsOf : Tuple → ℕ → ℕ
   pullsOf σ j = cond (sameTuple (pulled (extAt ext (120 * j))) σ) (pulls (extAt ext (120 * j))) 0
 
-  pub pulls-nothing : 0 ≡ pulls (extAt ext (120 * k)) → Put ext span rounds class lo hi (k + 1)
-  pulls-nothing none = record { size = put .size; waits = λ σ mine. put .waits σ mine ∙ sym (pulls-none ext σ k (sym none)) }
+  pub pulls-nothing : pulls (extAt ext (120 * k)) ≡ 0 → Put ext span rounds class lo hi (k + 1)
+  pulls-nothing none = record { size = put .size; waits = λ σ mine. put .waits σ mine ∙ sym (pulls-none ext σ k none) }
 
   pub pulls-other : (classOf rounds (pulled (extAt ext (120 * k))) ≡ class → ⊥) → Put ext span rounds class lo hi (k + 1)
   pulls-other differs =
@@ -127,12 +127,12 @@ module _ {ext : List ℕ} {span rounds class : ℕ} {lo hi : List ℕ} {k : ℕ}
             omega (arith, one-more (pullsOf σ) k, put .waits σ mine, other-class rounds class σ (pulled row) (pulls row) mine differs);
       }
 
-  pub pulls-once : {lo₁ hi₁ : List ℕ} → 1 ≡ pulls (extAt ext (120 * k)) → OneMore ext span (pulled (extAt ext (120 * k))) lo hi lo₁ hi₁
+  pub pulls-once : {lo₁ hi₁ : List ℕ} → pulls (extAt ext (120 * k)) ≡ 1 → OneMore ext span (pulled (extAt ext (120 * k))) lo hi lo₁ hi₁
       → Put ext span rounds class lo₁ hi₁ (k + 1)
   pulls-once once more =
       record {
         size = more .size;
-        waits = λ σ mine. omega (arith, put .waits σ mine, more .held σ, pulls-one ext (pulled (extAt ext (120 * k))) σ k (sym once) refl);
+        waits = λ σ mine. omega (arith, put .waits σ mine, more .held σ, pulls-one ext (pulled (extAt ext (120 * k))) σ k once refl);
       }
 
 -- every row is put, and none is taken yet
@@ -151,12 +151,12 @@ module _ {program exec ext : List ℕ} {span rounds class : ℕ} {lo hi : List �
   abbrev sent : Tuple
   sent = pushed (instructionOf (given program []) (tables exec []) r) (execAt exec (32 * r))
 
-  pub pushes-nothing : 0 ≡ pushes (instructionOf (given program []) (tables exec []) r) → Taken program exec ext span rounds class lo hi (r + 1)
+  pub pushes-nothing : pushes (instructionOf (given program []) (tables exec []) r) ≡ 0 → Taken program exec ext span rounds class lo hi (r + 1)
   pushes-nothing none =
       let i = instructionOf (given program []) (tables exec []) r in
       record {
         size = taken .size;
-        waits = λ σ mine. omega (arith, one-more (pushesOf σ) r, taken .waits σ mine, counts-none (sameTuple sent σ) (pushes i) (sym none));
+        waits = λ σ mine. omega (arith, one-more (pushesOf σ) r, taken .waits σ mine, counts-none (sameTuple sent σ) (pushes i) none);
       }
 
   pub pushes-other : (classOf rounds sent ≡ class → ⊥) → Taken program exec ext span rounds class lo hi (r + 1)
@@ -167,13 +167,13 @@ module _ {program exec ext : List ℕ} {span rounds class : ℕ} {lo hi : List �
         waits = λ σ mine. omega (arith, one-more (pushesOf σ) r, taken .waits σ mine, other-class rounds class σ sent (pushes i) mine differs);
       }
 
-  pub pushes-once : {lo₁ hi₁ : List ℕ} → 1 ≡ pushes (instructionOf (given program []) (tables exec []) r) → OneLess ext span sent lo hi lo₁ hi₁
+  pub pushes-once : {lo₁ hi₁ : List ℕ} → pushes (instructionOf (given program []) (tables exec []) r) ≡ 1 → OneLess ext span sent lo hi lo₁ hi₁
       → Taken program exec ext span rounds class lo₁ hi₁ (r + 1)
   pushes-once once less =
       record {
         size = less .size;
         waits = λ σ mine.
-            let is : cond (sameTuple sent σ) 1 0 ≡ pushesOf σ r = λ i. cond (sameTuple sent σ) (once i) 0 in
+            let is : pushesOf σ r ≡ cond (sameTuple sent σ) 1 0 = λ i. cond (sameTuple sent σ) (once i) 0 in
             omega (arith, one-more (pushesOf σ) r, taken .waits σ mine, less .held σ);
       }
 

@@ -1,3 +1,1 @@
-mod Back
 pub mod Held
-pub mod Settling

@@ -1,15 +1,10 @@
-// The bus of tables whose groups stand in any order: pushes are settled as a walk comes to them, in order or with the pulls in slots. Where that is
-// given up, as there are too many, it is settled in rounds: in each the pulls of one class of tuples are put into slots, and every push of that
-// class takes one of its tuple.
+// The bus of tables whose groups stand in any order, settled in rounds: in each the pulls of one class of tuples are put into slots, and every push
+// of that class takes one of its tuple.
 mod hash;
-mod hold;
-mod push;
 mod put;
 mod slot;
 mod take;
 
-pub use push::after_push;
-pub use push::settled;
 use put::put_rows;
 use put::starts;
 use slot::none_waits;
@@ -22,11 +17,13 @@ ghost use Prim.Native.Nat.{_/_, _<_};
 ghost use lib.ListN.{length};
 ghost use Rattle.rules.specs.Bus.{Tuple, pushedTo, pulledTo};
 ghost use Rattle.rules.specs.Sizes.{given, tables};
+ghost use Rattle.bus_tuples.specs.Ready.{Listed};
 ghost use Rattle.bus_rounds.specs.Slots.{classOf, Room};
 
 // Whether the pushes of a class of tuples take all its pulls. A slot has 24 bits, so that the slots of a round stay near the processor: 0 where
 // it is empty, a tag and k + 1 where extension row k waits, and 2^24 - 1 where a push took it.
 fn round(program: &[u8], exec: &[u8], ext: &[u8], span: u32, rounds: u64, class: u64) -> bool
+    requires { ⌜ Listed (now program) (now exec) ⌝ }
     requires { ⌜ Room (now ext) span × (0 < rounds) ⌝ }
     ensures { λ r. ⌜ (r ≡ true → (σ : Tuple) → classOf rounds σ ≡ class
         → pushedTo (given (now (program .entry)) []) (tables (now (exec .entry)) (now (ext .entry))) σ (length (now (exec .entry)) / 32)
@@ -45,6 +42,7 @@ fn round(program: &[u8], exec: &[u8], ext: &[u8], span: u32, rounds: u64, class:
 
 // Where it is true every tuple is pushed as often as it is pulled; where it is false nothing is known. A round has room for 16384 pulls.
 pub fn pairs_up(program: &[u8], exec: &[u8], ext: &[u8]) -> bool
+    requires { ⌜ Listed (now program) (now exec) ⌝ }
     ensures { λ r. ⌜ (r ≡ true → (σ : Tuple)
         → pushedTo (given (now (program .entry)) []) (tables (now (exec .entry)) (now (ext .entry))) σ (length (now (exec .entry)) / 32)
         ≡ pulledTo (tables (now (exec .entry)) (now (ext .entry))) σ (length (now (ext .entry)) / 120)) ⌝ }

@@ -5,7 +5,7 @@ use crate::slot::empty_for;
 use bus_tuples::Sent;
 use bus_tuples::pull_times;
 use bus_tuples::tuple_at;
-use word::word_at;
+use word::word_inside;
 ghost use mathlib.Core.Path.{_≡_};
 ghost use mathlib.Core.Bool.{true};
 ghost use mathlib.Core.List.{List};
@@ -21,7 +21,7 @@ pub fn starts(ext: &[u8]) -> u64 {
     let mut found: u64 = 0;
     let mut k = 0;
     while k < n {
-        if word_at(ext, 120 * k) != 0 {
+        if word_inside(ext, 120 * k) != 0 {
             found += 1;
         }
         k += 1;
@@ -30,7 +30,7 @@ pub fn starts(ext: &[u8]) -> u64 {
 }
 
 // Puts extension row k into a slot, where tuple t is looked for. False where none is found.
-pub fn put_slot(lo: &mut [u16; 17203], hi: &mut [u8; 17203], span: u32, t: Sent, k: usize) -> bool
+fn put_slot(lo: &mut [u16; 17203], hi: &mut [u8; 17203], span: u32, t: Sent, k: usize) -> bool
     requires { ⌜ Span span × (k + 1 < span) ⌝ }
     ensures { λ r. ⌜ (r ≡ true → (ext : List ℕ) → Sized (now (lo .entry)) (now (hi .entry))
         → OneMore ext span (pulled (extAt ext (120 * k))) (now (lo .entry)) (now (hi .entry)) (now (lo .exit)) (now (hi .exit))) ⌝ }

@@ -10,7 +10,7 @@ ghost use mathlib.Core.Bool.{true, false};
 ghost use lib.ListN.{length};
 ghost use Prim.Native.Nat.{ℕ, _+_, _*_, _<_, _≤_};
 ghost use Rattle.bus_tuples.specs.Sent.{tupleOf};
-ghost use Rattle.bus_rounds.specs.Slots.{slotAt, live, waiting, Span, Room, Tagged};
+ghost use Rattle.bus_rounds.specs.Slots.{slotAt, live, waiting, Room, Tagged};
 
 // How many numbers a tag has: more than the table has rows. A short table leaves more bits to the tag.
 pub fn span_of(ext: &[u8]) -> u32
@@ -58,24 +58,23 @@ pub fn empty_for(lo: &[u16; 17203], hi: &[u8; 17203], t: Sent) -> usize
     17203
 }
 
-// Whether a slot's number is of the tag that begins at low, and its row's tuple is t. A row is read only where the tag agrees.
-fn waits(ext: &[u8], x: u32, t: Sent, low: u32, span: u32) -> bool
-    requires { ⌜ Tagged span low ⌝ }
-    ensures { λ r. ⌜ (r ≡ true → waiting (now (ext .entry)) span (tupleOf t) x ≡ true) ⌝ }
+// Whether a slot's number is that of a row with the tag that begins at low, and the row's tuple is t. A row is read only where the tag agrees.
+fn waits(ext: &[u8], x: u32, t: Sent, low: u32) -> bool
+    ensures { λ r. ⌜ (r ≡ true → (span : ℕ) → Room (now (ext .entry)) span → Tagged span low → waiting (now (ext .entry)) span (tupleOf t) x ≡ true) ⌝ }
 {
     if x <= low {
         return false;
     }
-    if low + span <= x {
+    let at = 120 * ((x - low - 1) as usize);
+    if ext.len() < at + 120 {
         return false;
     }
-    let row = (x - low - 1) as usize;
-    same(tuple_at(ext, 120 * row), t)
+    same(tuple_at(ext, at), t)
 }
 
 // A slot where a row with tuple t waits; 17203 where none is found. None is beyond an empty slot.
 pub fn waiting_for(ext: &[u8], lo: &[u16; 17203], hi: &[u8; 17203], span: u32, t: Sent) -> usize
-    requires { ⌜ Span span ⌝ }
+    requires { ⌜ Room (now ext) span ⌝ }
     ensures { λ r. ⌜ (r < 17203 → waiting (now (ext .entry)) span (tupleOf t) (slotAt (now (lo .entry)) (now (hi .entry)) r) ≡ true) ⌝ }
 {
     let low = low_of(t, span);
@@ -87,7 +86,7 @@ pub fn waiting_for(ext: &[u8], lo: &[u16; 17203], hi: &[u8; 17203], span: u32, t
         if x == 0 {
             return 17203;
         }
-        if waits(ext, x, t, low, span) {
+        if waits(ext, x, t, low) {
             return s;
         }
         s = after(s, step);

@@ -2,39 +2,19 @@
 use crate::hash::class_of;
 use crate::slot::waiting_for;
 use bus_tuples::Sent;
-use bus_tuples::push_times;
-use bus_tuples::pushed_tuple;
-use form::instruction_at;
-use rows::exec_row;
+use bus_tuples::row_pushes;
+use bus_tuples::row_tuple;
 ghost use mathlib.Core.Path.{_≡_};
 ghost use mathlib.Core.Bool.{true};
-ghost use mathlib.Core.List.{[]};
 ghost use lib.ListN.{length};
-ghost use Prim.Native.Nat.{_+_, _*_, _/_, _<_};
-ghost use Rattle.rows.specs.Rows.{execAt};
-ghost use Rattle.rules.specs.Bus.{pushed, instructionOf};
-ghost use Rattle.rules.specs.Sizes.{given, tables};
+ghost use Prim.Native.Nat.{_+_, _/_, _<_};
 ghost use Rattle.bus_tuples.specs.Sent.{tupleOf};
-ghost use Rattle.bus_rounds.specs.Slots.{Span, Sized, OneLess, Taken};
-
-// The tuple of execution row r.
-fn row_tuple(program: &[u8], exec: &[u8], r: usize) -> Sent
-    requires { ⌜ r < length (now exec) / 32 ⌝ }
-    ensures { λ t. ⌜ tupleOf t ≡ pushed (instructionOf (given (now (program .entry)) []) (tables (now (exec .entry)) []) r) (execAt (now (exec .entry)) (32 * r)) ⌝ }
-{
-    let x = exec_row(exec, 32 * r);
-    pushed_tuple(instruction_at(program, 48 * (x.pc as usize)), x)
-}
+ghost use Rattle.bus_tuples.specs.Ready.{Listed};
+ghost use Rattle.bus_rounds.specs.Slots.{Room, Sized, OneLess, Taken};
 
 // Takes a row with tuple t out of its slot. False where none is found that waits.
-pub fn take_slot(
-    ext: &[u8],
-    lo: &mut [u16; 17203],
-    hi: &mut [u8; 17203],
-    span: u32,
-    t: Sent,
-) -> bool
-    requires { ⌜ Span span ⌝ }
+fn take_slot(ext: &[u8], lo: &mut [u16; 17203], hi: &mut [u8; 17203], span: u32, t: Sent) -> bool
+    requires { ⌜ Room (now ext) span ⌝ }
     ensures { λ b. ⌜ (b ≡ true → Sized (now (lo .entry)) (now (hi .entry))
         → OneLess (now (ext .entry)) span (tupleOf t) (now (lo .entry)) (now (hi .entry)) (now (lo .exit)) (now (hi .exit))) ⌝ }
 {
@@ -47,7 +27,7 @@ pub fn take_slot(
     false
 }
 
-// Takes what execution row r pushes, if its tuple is of the class. False where it may push more than once, or no row waits for it.
+// Takes what execution row r pushes, if its tuple is of the class. False where no row waits for it.
 fn take_row(
     program: &[u8],
     exec: &[u8],
@@ -59,18 +39,15 @@ fn take_row(
     class: u64,
     r: usize,
 ) -> bool
-    requires { ⌜ Span span × (0 < rounds) ⌝ }
+    requires { ⌜ Listed (now program) (now exec) ⌝ }
+    requires { ⌜ Room (now ext) span × (0 < rounds) ⌝ }
     requires { ⌜ r < length (now exec) / 32 ⌝ }
     ensures { λ b. ⌜ (b ≡ true
         → Taken (now (program .entry)) (now (exec .entry)) (now (ext .entry)) span rounds class (now (lo .entry)) (now (hi .entry)) r
         → Taken (now (program .entry)) (now (exec .entry)) (now (ext .entry)) span rounds class (now (lo .exit)) (now (hi .exit)) (r + 1)) ⌝ }
 {
-    let times = push_times(program, exec, r);
-    if times == 0 {
+    if !row_pushes(program, exec, r) {
         return true;
-    }
-    if times != 1 {
-        return false;
     }
     let t = row_tuple(program, exec, r);
     if class_of(t, rounds) != class {
@@ -89,7 +66,8 @@ pub fn take_rows(
     rounds: u64,
     class: u64,
 ) -> bool
-    requires { ⌜ Span span × (0 < rounds) ⌝ }
+    requires { ⌜ Listed (now program) (now exec) ⌝ }
+    requires { ⌜ Room (now ext) span × (0 < rounds) ⌝ }
     ensures { λ b. ⌜ (b ≡ true
         → Taken (now (program .entry)) (now (exec .entry)) (now (ext .entry)) span rounds class (now (lo .entry)) (now (hi .entry)) 0
         → Taken (now (program .entry)) (now (exec .entry)) (now (ext .entry)) span rounds class (now (lo .exit)) (now (hi .exit)) (length (now (exec .entry)) / 32)) ⌝ }

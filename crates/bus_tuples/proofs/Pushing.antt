@@ -1,7 +1,9 @@
 -- How often a well-formed instruction pushes: once where it has no opcode word, and else not.
 -- Assumes nothing.
 use mathlib.Core.Path.{_≡_, sym}
-use mathlib.Core.Bool.{true, false, cond}
+use mathlib.Core.Bool.{Bool, true, false, not, cond}
+use Prim.Native.Nat.{ℕ}
+use borrow.Author.Tests.{not-true, not-false}
 use Rattle.word.specs.Word.{_+ₚ_, _-ₚ_, _*ₚ_}
 use Rattle.form.specs.Form.{wellFormed, opcode}
 use Rattle.form.specs.declared.Instruction.{Instruction}
@@ -24,6 +26,12 @@ pushes-by i fits =
     by-kind i (f .0 .kind) (formed-of i (f .0) (f .1) .words)
 
 -- so what the code finds says how often
+pub no-push : (b : Bool) {n : ℕ} → cond b 1 0 ≡ n → not b ≡ true → n ≡ 0
+no-push b h e = sym (rw (not-true b e) at h)
+
+pub one-push : (b : Bool) {n : ℕ} → cond b 1 0 ≡ n → not b ≡ false → n ≡ 1
+one-push b h e = sym (rw (not-false b e) at h)
+
 pub pushes-one : (i : Instruction) → wellFormed i ≡ true → opcode i 0 0 0 ≡ true → pushes i ≡ 1
 pushes-one i fits e = sym (rw e at (pushes-by i fits))
 

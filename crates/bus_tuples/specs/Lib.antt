@@ -1,3 +1,5 @@
+pub mod Selected
 pub mod Sent
 pub mod Times
 pub mod Order
+pub mod Ready

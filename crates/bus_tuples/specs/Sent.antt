@@ -1,4 +1,4 @@
--- Document 01, "The bus": a tuple as code holds it.
+-- Inner: a tuple as code holds it.
 use Rattle.rules.specs.Bus.{Tuple}
 use Rattle.bus_tuples.specs.declared.Sent.{Sent}
 

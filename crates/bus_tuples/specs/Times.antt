@@ -1,11 +1,14 @@
--- Document 01, "The bus"; draft 0.6.0, 3.3.3 (IS_PRECOMPILE): how often a row pushes and pulls, by the words that say so.
-use Prim.Native.Nat.{ℕ, _+_, _*_}
-use Rattle.word.specs.Word.{_+ₚ_, _-ₚ_, _*ₚ_}
-use Rattle.rules.specs.Execution.{half}
+-- Inner: how often an extension row pulls, as the code finds it before the row's rules are known to hold.
+use mathlib.Core.Bool.{_&&_, cond}
+use Prim.Native.Nat.{ℕ, _+_}
+use lib.Dec.{eqb, leb}
+use Rattle.rows.specs.declared.Ext.{Ext}
 
--- IS-PRECOMPILE of an instruction with these opcode words
-abbrev pub pushesBy : ℕ → ℕ → ℕ → ℕ
-pushesBy mul jump aux = 1 -ₚ (aux *ₚ (2 -ₚ aux) +ₚ mul +ₚ aux *ₚ (aux -ₚ 1) *ₚ half +ₚ jump)
+-- by the words that say so; 2 where one of them is no flag, as of such a row no more is asked than that it doesn't pull once
+abbrev pub pullBy : ℕ → ℕ → ℕ → ℕ → ℕ
+pullBy start add mul peq =
+    cond (eqb start 0) 0 (cond (eqb start 1 && leb add 1 && leb mul 1 && leb peq 1) (add + mul + peq) 2)
 
-abbrev pub pullsBy : ℕ → ℕ → ℕ → ℕ → ℕ
-pullsBy start add mul peq = start * (add + mul + peq)
+-- at most once it is as often as the row pulls, and of a row with flags always (proofs/Times)
+abbrev pub pullCount : Ext → ℕ
+pullCount x = pullBy (x .start) (x .add) (x .mul) (x .peq)

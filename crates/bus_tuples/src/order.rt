@@ -1,16 +1,19 @@
 // Pulls in the order in which they stand: what the next one pulls, against what a row pushes.
 use crate::Sent;
+use crate::times::is_precompile;
 use crate::times::pull_times;
+use crate::tuple::pushed_tuple;
 use crate::tuple::same;
 use crate::tuple::tuple_at;
-ghost use lib.ListN.{length};
-ghost use Prim.Native.Nat.{_/_, _≤_};
+use form::Instruction;
+use rows::Exec;
+ghost use mathlib.Core.Path.{_≡_};
 ghost use Rattle.bus_tuples.specs.Sent.{tupleOf};
-ghost use Rattle.bus_tuples.specs.Order.{PullsNothing, PullsOnce};
+ghost use Rattle.bus_tuples.specs.Order.{nextPull, afterPull, afterRow};
 
 // The first extension row from a row on that may pull; their number where there is none.
 pub fn next_pull(ext: &[u8], from: usize) -> usize
-    ensures { λ r. ⌜ (r ≤ length (now (ext .entry)) / 120 → from ≤ length (now (ext .entry)) / 120) × PullsNothing (now (ext .entry)) from r ⌝ }
+    ensures { λ r. ⌜ r ≡ nextPull (now (ext .entry)) from ⌝ }
 {
     let n = ext.len() / 120;
     let mut k = from;
@@ -25,7 +28,7 @@ pub fn next_pull(ext: &[u8], from: usize) -> usize
 
 // The extension row after the next pull from row k on, where that pulls t once; past the end where it doesn't.
 pub fn after_pull(ext: &[u8], k: usize, t: Sent) -> usize
-    ensures { λ s. ⌜ (s ≤ length (now (ext .entry)) / 120 → (k ≤ length (now (ext .entry)) / 120) × PullsOnce (now (ext .entry)) (tupleOf t) k s) ⌝ }
+    ensures { λ r. ⌜ r ≡ afterPull (now (ext .entry)) k (tupleOf t) ⌝ }
 {
     let n = ext.len() / 120;
     let at = next_pull(ext, k);
@@ -36,4 +39,14 @@ pub fn after_pull(ext: &[u8], k: usize, t: Sent) -> usize
         return at + 1;
     }
     n + 1
+}
+
+// The same after an execution row x with instruction i, of which only a precompile pushes.
+pub fn after_row(ext: &[u8], k: usize, i: Instruction, x: Exec) -> usize
+    ensures { λ r. ⌜ r ≡ afterRow (now (ext .entry)) k i x ⌝ }
+{
+    if is_precompile(i) {
+        return after_pull(ext, k, pushed_tuple(i, x));
+    }
+    k
 }

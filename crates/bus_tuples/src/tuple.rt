@@ -1,14 +1,14 @@
 // Tuples of the bus: what a row pushes or pulls.
 use crate::Sent;
+use crate::operand::selected;
 use form::Instruction;
-use judge_exec::selected;
 use rows::Exec;
-use rows::Ext;
 use word::P;
 use word::wide;
-use word::word_at;
+use word::word_inside;
 ghost use mathlib.Core.Path.{_≡_};
-ghost use Prim.Native.Nat.{_%_, _<_};
+ghost use Prim.Native.Nat.{_+_, _%_, _≤_};
+ghost use lib.ListN.{length};
 ghost use Rattle.word.specs.Word.{p};
 ghost use Rattle.form.specs.Data.{dataOf};
 ghost use Rattle.rows.specs.Rows.{extAt};
@@ -39,40 +39,21 @@ fn pulled_data(be: u32, add: u32, mul: u32, peq: u32, len: u32) -> u32
     (data % P) as u32
 }
 
-// (2·be + 4·add + 8·mul + 16·peq + 32·len, idxA, idxB, idxR)
-pub fn pulled_tuple(x: Ext) -> Sent
-    ensures { λ r. ⌜ tupleOf r ≡ pulled x ⌝ }
-{
-    Sent {
-        aux: pulled_data(x.be, x.add, x.mul, x.peq, x.len),
-        left: x.idxA,
-        right: x.idxB,
-        out: x.idxR,
-    }
-}
-
-// The same of the extension row that starts at a byte, of which no more is read. A place at the end of 64 bits is in no table.
+// (2·be + 4·add + 8·mul + 16·peq + 32·len, idxA, idxB, idxR) of the extension row that starts at a byte, of which no more is read.
 pub fn tuple_at(ext: &[u8], at: usize) -> Sent
-    ensures { λ r. ⌜ (at < 18446744073709551584 → tupleOf r ≡ pulled (extAt (now (ext .entry)) at)) ⌝ }
+    requires { ⌜ at + 120 ≤ length (now ext) ⌝ }
+    ensures { λ r. ⌜ tupleOf r ≡ pulled (extAt (now (ext .entry)) at) ⌝ }
 {
-    if 18446744073709551583 < at {
-        return Sent {
-            aux: 0,
-            left: 0,
-            right: 0,
-            out: 0,
-        };
-    }
-    let add = word_at(ext, at + 4);
-    let mul = word_at(ext, at + 8);
-    let peq = word_at(ext, at + 12);
-    let len = word_at(ext, at + 16);
-    let be = word_at(ext, at + 32);
+    let add = word_inside(ext, at + 4);
+    let mul = word_inside(ext, at + 8);
+    let peq = word_inside(ext, at + 12);
+    let len = word_inside(ext, at + 16);
+    let be = word_inside(ext, at + 32);
     Sent {
         aux: pulled_data(be, add, mul, peq, len),
-        left: word_at(ext, at + 20),
-        right: word_at(ext, at + 24),
-        out: word_at(ext, at + 28),
+        left: word_inside(ext, at + 20),
+        right: word_inside(ext, at + 24),
+        out: word_inside(ext, at + 28),
     }
 }
 

@@ -1,4 +1,2 @@
-pub mod Tuples
-pub mod Countable
 pub mod Joined
 pub mod Windows

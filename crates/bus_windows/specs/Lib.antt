@@ -1,3 +1,2 @@
-pub mod Bus
 pub mod Senders
 pub mod Window

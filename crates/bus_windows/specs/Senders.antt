@@ -1,4 +1,4 @@
--- Document 01, "The bus" and verdict 7: the execution rows and then the extension rows as one sequence of senders, in the order in which they are judged.
+-- Inner: the execution rows and then the extension rows as one sequence of senders, in the order in which verdict 7 tries them.
 use mathlib.Core.Path.{_≡_}
 use mathlib.Core.Bool.{Bool, true, false, _||_, cond}
 use Prim.Native.Nat.{ℕ, _+_, _-_, _≤_, _<_}

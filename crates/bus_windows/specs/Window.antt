@@ -1,4 +1,4 @@
--- A window: 1024 slots of tuples on the stack, each counted over both tables.
+-- Inner: a window, 1024 slots of tuples on the stack, each counted over both tables.
 use mathlib.Core.Path.{_≡_}
 use mathlib.Core.Bool.{true, false, cond}
 use mathlib.Core.List.{List}

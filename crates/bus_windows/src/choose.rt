@@ -7,7 +7,7 @@ ghost use mathlib.Core.List.{[]};
 ghost use Prim.Native.Nat.{_+_, _/_, _<_, _≤_};
 ghost use lib.ListN.{length};
 ghost use Rattle.rules.specs.Sizes.{given, tables};
-ghost use Rattle.bus_windows.specs.Bus.{Coded, Flagged};
+ghost use Rattle.bus_tuples.specs.Ready.{Listed, Flagged};
 ghost use Rattle.bus_windows.specs.Window.{SameLengths, Holds};
 
 // Puts a tuple after slot `at` among the sorted slots, of which those below `used` are used. How many are used then.
@@ -36,7 +36,7 @@ fn put_sender(
     used: usize,
     j: usize,
 ) -> usize
-    requires { ⌜ Coded (now program) (now exec) ⌝ }
+    requires { ⌜ Listed (now program) (now exec) ⌝ }
     requires { ⌜ Flagged (now ext) ⌝ }
     requires { ⌜ (used < 1024) × (j < length (now exec) / 32 + length (now ext) / 120) ⌝ }
     ensures { λ r. ⌜ (r ≤ used + 1) × SameLengths (now (uppers .entry)) (now (lowers .entry)) (now (uppers .exit)) (now (lowers .exit)) ⌝ }
@@ -62,7 +62,7 @@ fn fill(
     lowers: &mut [u64; 1024],
     from: usize,
 )
-    requires { ⌜ Coded (now program) (now exec) ⌝ }
+    requires { ⌜ Listed (now program) (now exec) ⌝ }
     requires { ⌜ Flagged (now ext) ⌝ }
     ensures { λ _. ⌜ SameLengths (now (uppers .entry)) (now (lowers .entry)) (now (uppers .exit)) (now (lowers .exit)) ⌝ }
 {
@@ -87,7 +87,7 @@ pub fn choose(
     lowers: &mut [u64; 1024],
     from: usize,
 )
-    requires { ⌜ Coded (now program) (now exec) ⌝ }
+    requires { ⌜ Listed (now program) (now exec) ⌝ }
     requires { ⌜ Flagged (now ext) ⌝ }
     requires { ⌜ from < length (now exec) / 32 + length (now ext) / 120 ⌝ }
     requires { ⌜ (0 < length (now uppers)) × (0 < length (now lowers)) ⌝ }

@@ -1,19 +1,16 @@
 // The bus where pushes and pulls stand in different orders, or don't match: counted in windows, up to the first sender that is unequal.
 mod choose;
-mod ready;
 mod sender;
-mod tuple;
 mod window;
 
 use answer::Answer;
 use bus_tuples::Sent;
-use ready::countable;
 use window::first_unequal;
 ghost use mathlib.Core.Path.{_≡_};
 ghost use mathlib.Core.List.{[]};
 ghost use Rattle.judge_spec.specs.Judged.{bus};
 ghost use Rattle.rules.specs.Sizes.{given, tables};
-ghost use Rattle.bus_windows.specs.Bus.{Coded, Flagged, Short, countedBus};
+ghost use Rattle.bus_tuples.specs.Ready.{Listed, Flagged, Short};
 
 // A tuple, how often it is pushed, and how often it is pulled.
 struct Tally {
@@ -34,9 +31,9 @@ struct Looked {
     unequal: bool,
 }
 
-// The row that is unequal, in the table it stands in.
-fn answered(program: &[u8], exec: &[u8], ext: &[u8]) -> Answer
-    requires { ⌜ Coded (now program) (now exec) ⌝ }
+// The bus by counting: the first row that is unequal, in the table it stands in.
+pub fn count_bus(program: &[u8], exec: &[u8], ext: &[u8]) -> Answer
+    requires { ⌜ Listed (now program) (now exec) ⌝ }
     requires { ⌜ Flagged (now ext) ⌝ }
     requires { ⌜ Short (now exec) × Short (now ext) ⌝ }
     ensures { λ r. ⌜ r ≡ bus (given (now (program .entry)) []) (tables (now (exec .entry)) (now (ext .entry))) ⌝ }
@@ -57,14 +54,4 @@ fn answered(program: &[u8], exec: &[u8], ext: &[u8]) -> Answer
         };
     }
     Answer::Accepted
-}
-
-// The bus by counting. Tables that a stage before would have refused are not counted: their counts might not fit.
-pub fn count_bus(program: &[u8], exec: &[u8], ext: &[u8]) -> Answer
-    ensures { λ r. ⌜ r ≡ countedBus (now (program .entry)) (now (exec .entry)) (now (ext .entry)) ⌝ }
-{
-    if !countable(program, exec, ext) {
-        return Answer::Bus { part: 0, row: 0 };
-    }
-    answered(program, exec, ext)
 }

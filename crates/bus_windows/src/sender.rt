@@ -1,27 +1,24 @@
 // The execution rows and then the extension rows as one sequence of senders, in the order in which verdict 7 tries them.
 use crate::Tally;
-use crate::tuple::instruction_of;
-use crate::tuple::pull_times;
-use crate::tuple::pushing;
-use crate::tuple::row_of;
 use bus_tuples::Sent;
-use bus_tuples::pulled_tuple;
-use bus_tuples::pushed_tuple;
-use rows::exec_row;
+use bus_tuples::pull_times;
+use bus_tuples::row_pushes;
+use bus_tuples::row_tuple;
+use bus_tuples::tuple_at;
 ghost use mathlib.Core.List.{[]};
 ghost use Prim.Native.Nat.{_+_, _/_, _<_};
 ghost use lib.ListN.{length};
 ghost use Rattle.rules.specs.Sizes.{given, tables};
-ghost use Rattle.bus_windows.specs.Bus.{Coded, Flagged};
+ghost use Rattle.bus_tuples.specs.Ready.{Listed, Flagged};
 ghost use Rattle.bus_windows.specs.Senders.{pushSent, pullSent, sendingOf, Reads};
 
 // Execution row r. Most rows push nothing: of those no tuple is made.
 fn pusher(program: &[u8], exec: &[u8], r: usize) -> Tally
-    requires { ⌜ Coded (now program) (now exec) ⌝ }
+    requires { ⌜ Listed (now program) (now exec) ⌝ }
     requires { ⌜ r < length (now exec) / 32 ⌝ }
     ensures { λ x. ⌜ Reads x (pushSent (given (now (program .entry)) []) (tables (now (exec .entry)) []) r) ⌝ }
 {
-    if !pushing(program, exec, r) {
+    if !row_pushes(program, exec, r) {
         return Tally {
             plus: 0,
             minus: 0,
@@ -33,8 +30,7 @@ fn pusher(program: &[u8], exec: &[u8], r: usize) -> Tally
             },
         };
     }
-    let i = instruction_of(program, exec, r);
-    let sent = pushed_tuple(i, exec_row(exec, 32 * r));
+    let sent = row_tuple(program, exec, r);
     Tally {
         plus: 1,
         minus: 0,
@@ -48,9 +44,8 @@ fn puller(ext: &[u8], k: usize) -> Tally
     requires { ⌜ k < length (now ext) / 120 ⌝ }
     ensures { λ x. ⌜ Reads x (pullSent (tables [] (now (ext .entry))) k) ⌝ }
 {
-    let y = row_of(ext, k);
-    let minus = pull_times(y);
-    let sent = pulled_tuple(y);
+    let minus = pull_times(ext, k);
+    let sent = tuple_at(ext, 120 * k);
     Tally {
         plus: 0,
         minus,
@@ -59,7 +54,7 @@ fn puller(ext: &[u8], k: usize) -> Tally
 }
 
 pub fn sender(program: &[u8], exec: &[u8], ext: &[u8], j: usize) -> Tally
-    requires { ⌜ Coded (now program) (now exec) ⌝ }
+    requires { ⌜ Listed (now program) (now exec) ⌝ }
     requires { ⌜ Flagged (now ext) ⌝ }
     requires { ⌜ j < length (now exec) / 32 + length (now ext) / 120 ⌝ }
     ensures { λ x. ⌜ Reads x (sendingOf (given (now (program .entry)) []) (tables (now (exec .entry)) (now (ext .entry))) j) ⌝ }

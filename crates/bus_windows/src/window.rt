@@ -12,7 +12,7 @@ ghost use Prim.Native.Nat.{_+_, _-_, _/_, _<_};
 ghost use lib.ListN.{length};
 ghost use Rattle.rules.specs.Sizes.{given, tables};
 ghost use Rattle.judge_spec.specs.First.{first};
-ghost use Rattle.bus_windows.specs.Bus.{Short, Coded, Flagged};
+ghost use Rattle.bus_tuples.specs.Ready.{Short, Listed, Flagged};
 ghost use Rattle.bus_windows.specs.Senders.{equalAt, LooksFrom};
 ghost use Rattle.bus_windows.specs.Window.{Counted, Holds, FoundAt};
 
@@ -26,7 +26,7 @@ fn count_one(
     net: &mut [u32; 1024],
     j: usize,
 )
-    requires { ⌜ Coded (now program) (now exec) ⌝ }
+    requires { ⌜ Listed (now program) (now exec) ⌝ }
     requires { ⌜ Flagged (now ext) ⌝ }
     requires { ⌜ Short (now exec) × Short (now ext) ⌝ }
     requires { ⌜ j < length (now exec) / 32 + length (now ext) / 120 ⌝ }
@@ -54,7 +54,7 @@ fn count(
     lowers: &[u64; 1024],
     net: &mut [u32; 1024],
 )
-    requires { ⌜ Coded (now program) (now exec) ⌝ }
+    requires { ⌜ Listed (now program) (now exec) ⌝ }
     requires { ⌜ Flagged (now ext) ⌝ }
     requires { ⌜ Short (now exec) × Short (now ext) ⌝ }
     requires { ⌜ Counted (given (now program) []) (tables (now exec) (now ext)) (now uppers) (now lowers) (now net) 0 ⌝ }
@@ -79,7 +79,7 @@ fn found(
     net: &[u32; 1024],
     j: usize,
 ) -> Found
-    requires { ⌜ Coded (now program) (now exec) ⌝ }
+    requires { ⌜ Listed (now program) (now exec) ⌝ }
     requires { ⌜ Flagged (now ext) ⌝ }
     requires { ⌜ j < length (now exec) / 32 + length (now ext) / 120 ⌝ }
     requires { ⌜ Counted (given (now program) []) (tables (now exec) (now ext)) (now uppers) (now lowers) (now net)
@@ -118,7 +118,7 @@ fn look(
     net: &[u32; 1024],
     from: usize,
 ) -> Looked
-    requires { ⌜ Coded (now program) (now exec) ⌝ }
+    requires { ⌜ Listed (now program) (now exec) ⌝ }
     requires { ⌜ Flagged (now ext) ⌝ }
     requires { ⌜ from < length (now exec) / 32 + length (now ext) / 120 ⌝ }
     requires { ⌜ Holds (given (now program) []) (tables (now exec) (now ext)) (now uppers) (now lowers) from ⌝ }
@@ -159,7 +159,7 @@ fn counted(
     lowers: &[u64; 1024],
     from: usize,
 ) -> Looked
-    requires { ⌜ Coded (now program) (now exec) ⌝ }
+    requires { ⌜ Listed (now program) (now exec) ⌝ }
     requires { ⌜ Flagged (now ext) ⌝ }
     requires { ⌜ Short (now exec) × Short (now ext) ⌝ }
     requires { ⌜ from < length (now exec) / 32 + length (now ext) / 120 ⌝ }
@@ -172,7 +172,7 @@ fn counted(
 }
 
 fn window(program: &[u8], exec: &[u8], ext: &[u8], from: usize) -> Looked
-    requires { ⌜ Coded (now program) (now exec) ⌝ }
+    requires { ⌜ Listed (now program) (now exec) ⌝ }
     requires { ⌜ Flagged (now ext) ⌝ }
     requires { ⌜ Short (now exec) × Short (now ext) ⌝ }
     requires { ⌜ from < length (now exec) / 32 + length (now ext) / 120 ⌝ }
@@ -186,7 +186,7 @@ fn window(program: &[u8], exec: &[u8], ext: &[u8], from: usize) -> Looked
 
 // The first sender whose tuple is unequal; their number where there is none.
 pub fn first_unequal(program: &[u8], exec: &[u8], ext: &[u8]) -> usize
-    requires { ⌜ Coded (now program) (now exec) ⌝ }
+    requires { ⌜ Listed (now program) (now exec) ⌝ }
     requires { ⌜ Flagged (now ext) ⌝ }
     requires { ⌜ Short (now exec) × Short (now ext) ⌝ }
     ensures { λ r. ⌜ r ≡ first (equalAt (given (now (program .entry)) []) (tables (now (exec .entry)) (now (ext .entry)))) 0

@@ -1,54 +1,66 @@
--- Eight words at a time: what each of several eights says of the words from one on.
+-- What a test of several numbers at once tells: it is true exactly where each of them passes. Two such tests joined tell of both runs.
 -- Assumes nothing.
-use mathlib.Core.Path.{_≡_, refl, subst}
+use mathlib.Core.Path.{_≡_, refl, sym, _∙_, subst}
+use mathlib.Core.Logic.{_↔_}
 use mathlib.Core.Bool.{Bool, true, false, _&&_}
 use mathlib.Core.List.{List, [], _∷_}
-use Prim.Native.Nat.{ℕ, zero, suc, _+_, _-_, _/_, _≤_}
-use native.Mathlib.Nat.{add-zero}
+use Prim.Native.Nat.{ℕ, suc, _+_, _≤_, zero-le}
 use native.Mathlib.Omega.{arith}
-use lib.Dec.{ltb, leb}
-use lib.ListN.{length}
-use borrow.Author.Tests.{ltb-true, ltb-false}
-use Rattle.form.proofs.Cases.{Each, each}
+use lib.Dec.{ltb, eqb}
+use borrow.Author.Tests.{ltb-true, ltb-false, eqb-true, eq-eqb}
+use Rattle.form.proofs.Cases.{each}
+use Rattle.judge_spec.specs.First.{first}
 use Rattle.judge_spec.specs.Judged.{isWord}
-use Rattle.inputs.specs.Words.{eightWords, WordsFrom}
+use Rattle.judge_spec.proofs.FirstLaws.{first-none}
+use Rattle.inputs.specs.Words.{eightWords}
+use Rattle.inputs.proofs.Walks.{Pass}
 
-abbrev others : List ℕ → ℕ → List Bool
-others bytes i =
-    isWord bytes (i + 1)
-    ∷ isWord bytes (i + 2)
-    ∷ isWord bytes (i + 3)
-    ∷ isWord bytes (i + 4)
-    ∷ isWord bytes (i + 5)
-    ∷ isWord bytes (i + 6)
-    ∷ isWord bytes (i + 7)
-    ∷ []
+-- tests that are true together are the same
+same-truth : (a b : Bool) → (a ≡ true → b ≡ true) → (b ≡ true → a ≡ true) → a ≡ b
+same-truth true b f g = sym (f refl)
+same-truth false true f g = g refl
+same-truth false false f g = refl
 
-pub eight : (bytes : List ℕ) (i : ℕ) → eightWords bytes i ≡ true → WordsFrom bytes i 8
-eight bytes i e = at (each (isWord bytes i) (others bytes i) e)
-  where
-    at : Each (isWord bytes i) (others bytes i) → WordsFrom bytes i 8
-    at w zero h = rw (add-zero i) (w .0)
-    at w (suc zero) h = w .1 .0
-    at w (suc (suc zero)) h = w .1 .1 .0
-    at w (suc (suc (suc zero))) h = w .1 .1 .1 .0
-    at w (suc (suc (suc (suc zero)))) h = w .1 .1 .1 .1 .0
-    at w (suc (suc (suc (suc (suc zero))))) h = w .1 .1 .1 .1 .1 .0
-    at w (suc (suc (suc (suc (suc (suc zero)))))) h = w .1 .1 .1 .1 .1 .1 .0
-    at w (suc (suc (suc (suc (suc (suc (suc zero))))))) h = w .1 .1 .1 .1 .1 .1 .1
-    at w (suc (suc (suc (suc (suc (suc (suc (suc j)))))))) h = absurd (omega arith)
+module _ (passes : ℕ → Bool) where
+  -- a test tells whether the numbers from i to e pass
+  abbrev pub Tells : Bool → ℕ → ℕ → Type 0
+  Tells a i e = (a ≡ true) ↔ Pass passes i e
 
--- eight more, from a word on that was passed or is the next
-pub eight-more : (bytes : List ℕ) (i n k : ℕ) → k ≤ n → WordsFrom bytes i n → eightWords bytes (i + k) ≡ true → WordsFrom bytes i (k + 8)
-eight-more bytes i n k low run e j h = go (ltb j n) refl
-  where
-    go : (b : Bool) → ltb j n ≡ b → isWord bytes (i + j) ≡ true
-    go true t = run j (ltb-true j n t)
-    go false t =
-        let past : n ≤ j = ltb-false j n t in
-        let same : i + k + (j - k) ≡ i + j = omega arith in
-        subst (λ m. isWord bytes m ≡ true) same (eight bytes (i + k) e (j - k) (omega arith))
+  pub none-yet : Tells true 0 0
+  none-yet = ((λ _ j low high. absurd (omega arith)), λ _. refl)
 
--- eight that are there and are words are words
-pub eight-seen : (bytes : List ℕ) (i : ℕ) → (leb (i + 8) (length bytes / 4) && eightWords bytes i) ≡ true → eightWords bytes i ≡ true
-eight-seen bytes i e = each (leb (i + 8) (length bytes / 4)) (eightWords bytes i ∷ []) e .1
+  pub joined : (a b : Bool) (i e k f : ℕ) → i ≤ k → k ≤ e → e ≤ f → Tells a i e → Tells b k f → Tells (a && b) i f
+  joined a b i e k f ik ke ef first then = (to, λ all. rw (first .1 (λ j low high. all j low (omega arith)), then .1 (λ j low high. all j (omega arith) high)))
+    where
+      to : (a && b) ≡ true → Pass passes i f
+      to t j low high = go (ltb j e) refl
+        where
+          go : (c : Bool) → ltb j e ≡ c → passes j ≡ true
+          go true h = first .0 (each a (b ∷ []) t .0) j low (ltb-true j e h)
+          go false h = then .0 (each a (b ∷ []) t .1) j (omega (arith, ltb-false j e h)) high
+
+  -- one number, and one more
+  one : (i e : ℕ) → e ≡ i + 1 → Tells (passes i) i e
+  one i e last = ((λ t j low high. let same : i ≡ j = omega arith in rw same at t), λ all. all i (omega arith) (omega arith))
+
+  one-more : (a : Bool) (i e f : ℕ) → i ≤ e → f ≡ e + 1 → Tells a i e → Tells (a && passes e) i f
+  one-more a i e f low last tells = joined a (passes e) i e e f low (omega arith) (omega arith) tells (one e f last)
+
+  -- a test of all of them is that none fails
+  pub all-told : (a : Bool) (n : ℕ) → Tells a 0 n → a ≡ eqb (first passes 0 n) n
+  all-told a n tells =
+      same-truth a (eqb (first passes 0 n) n)
+      (λ t. eq-eqb _ n (first-none passes n .1 (λ k h. tells .0 t k zero-le h)))
+      (λ t. tells .1 (λ k low h. first-none passes n .0 (eqb-true _ n t) k h))
+
+module _ (bytes : List ℕ) where
+  pub eight : (i : ℕ) → Tells (isWord bytes) (eightWords bytes i) i (i + 8)
+  eight i = next 7 (next 6 (next 5 (next 4 (next 3 (next 2 (next 1 (one (isWord bytes) i (i + 1) refl)))))))
+    where
+      next : {a : Bool} (k : ℕ) → Tells (isWord bytes) a i (i + k) → Tells (isWord bytes) (a && isWord bytes (i + k)) i (i + suc k)
+      next {a} k tells = one-more (isWord bytes) a i (i + k) (i + suc k) (omega arith) (omega arith) tells
+
+  -- eight more, from a word on that was told of or is the next
+  pub eight-more : (a : Bool) (i e k f : ℕ) → i ≤ k → k ≤ e → e ≤ f → f ≡ k + 8 → Tells (isWord bytes) a i e
+      → Tells (isWord bytes) (a && eightWords bytes k) i f
+  eight-more a i e k f ik ke ef last tells = joined (isWord bytes) a (eightWords bytes k) i e k f ik ke ef tells (rw last (eight k))

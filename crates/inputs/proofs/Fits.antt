@@ -4,57 +4,35 @@ use borrow.Author.Tests.{eqb-true, leb-true}
 use mathlib.Core.Bool.{Bool, true, false, cond}
 use mathlib.Core.List.{[], _∷_}
 use mathlib.Core.Path.{_≡_, refl}
-use Prim.Native.Nat.{ℕ, zero, suc, _-_, _*_, _/_, _%_, _^_, _≤_}
-use native.Mathlib.Nat.{mul-le-mul-left}
+use Prim.Native.Nat.{ℕ, _/_, _%_, _^_}
 use native.Mathlib.Omega.{arith}
 use lib.Dec.{eqb, leb}
-use lib.Pow.{pow-pos}
-use Rattle.form.proofs.Cases as cases
+use Rattle.form.proofs.Cases.{each}
 use Rattle.answer.specs.declared.Answer.the-variants.{Size}
 use Rattle.answer.specs.declared.Answer.{Answer}
-use Rattle.rules.specs.Sizes.{power, powerOf, programFits, memoryFits, execFits, extFits}
+use Rattle.rules.specs.Sizes.{programFits, memoryFits, execFits, extFits}
 use Rattle.inputs.specs.Parts.{Fitting}
-use Rattle.inputs.proofs.Powers.{doubles}
-
--- x doubled at most k times is from x to x * 2 ^ k
-at-most : (n x k : ℕ) → power n x k ≡ true → (x ≤ n) × (n ≤ x * 2 ^ k)
-at-most n x zero e = (omega (arith, eqb-true n x e), omega (arith, eqb-true n x e))
-at-most n x (suc k) e =
-    cases.either (eqb n x) (power n (2 * x) k)
-    (λ same. (omega (arith, eqb-true n x same), omega (arith, eqb-true n x same, mul-le-mul-left x (pow-pos (suc k)))))
-    (λ later.
-    let less : suc k - 1 ≡ k = omega arith in
-    let b = at-most n (2 * x) k later in
-    (omega arith, omega (arith, rw less at (doubles x (suc k) (omega arith)))))
-    e
-
-record Units (bytes unit more : ℕ) : Type 0 where
-  whole : bytes % unit ≡ 0
-  some : 256 ≤ bytes / unit
-  few : bytes / unit ≤ 256 * 2 ^ more
-
-units : (bytes unit more : ℕ) → powerOf bytes unit more ≡ true → Units bytes unit more
-units bytes unit more e =
-    let both = cases.each (eqb (bytes % unit) 0) (power (bytes / unit) 256 more ∷ []) e in
-    let b = at-most (bytes / unit) 256 more (both .1) in
-    record { whole = eqb-true (bytes % unit) 0 (both .0); some = b .0; few = b .1 }
+use Rattle.judge_spec.proofs.Cases.{from-true}
+use Rattle.judge_spec.proofs.Lengths.{whole}
 
 -- lengths that fit
 pub fitting : (program memory exec ext : ℕ) → programFits program ≡ true → memoryFits memory ≡ true → execFits exec ≡ true → extFits ext ≡ true
     → Fitting program memory exec ext
 fitting program memory exec ext ep em ex et =
-    let fits = cases.each (eqb (program % 48) 0) (leb 1 (program / 48) ∷ leb (program / 48) (2 ^ 20) ∷ []) ep in
-    let um = units memory 4 21 em in
-    let ux = units exec 32 17 ex in
-    let ut = units ext 120 12 et in
+    let fits = each (eqb (program % 48) 0) (leb 1 (program / 48) ∷ leb (program / 48) (2 ^ 20) ∷ []) ep in
+    let um = whole memory 4 29 (from-true _ em) in
+    let ux = whole exec 32 25 (from-true _ ex) in
+    let ut = whole ext 120 20 (from-true _ et) in
     record {
+      program-rows = eqb-true (program % 48) 0 (fits .0);
       program-short = omega (arith, leb-true (program / 48) (2 ^ 20) (fits .1 .1), eqb-true (program % 48) 0 (fits .0));
-      memory-short = omega (arith, um .whole, um .few);
+      memory-short = omega (arith, um .whole, um .number .most);
       exec-rows = ux .whole;
-      exec-some = omega (arith, ux .some);
-      exec-short = omega (arith, ux .whole, ux .few);
+      exec-some = omega (arith, ux .number .least);
+      exec-short = omega (arith, ux .whole, ux .number .most);
       ext-rows = ut .whole;
-      ext-short = omega (arith, ut .whole, ut .few);
+      ext-some = omega (arith, ut .number .least);
+      ext-short = omega (arith, ut .whole, ut .number .most);
     }
 
 -- the lowest of four tests that fails

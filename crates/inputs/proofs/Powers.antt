@@ -1,30 +1,30 @@
--- The loop that doubles: whether a number is x, doubled at most k times, step by step.
+-- The loop over powers of two, from the highest down.
 -- Assumes nothing.
-use mathlib.Core.Path.{_≡_, sym}
-use mathlib.Core.Bool.{true}
-use Prim.Native.Nat.{ℕ, zero, suc, _-_, _*_, _^_, _≤_, _<_}
-use native.Mathlib.Nat.{mul-le-mul-left, mul-one, not-suc-le-zero, pow-suc}
+use mathlib.Core.Path.{_≡_}
+use mathlib.Core.Bool.{true, false}
+use Prim.Native.Nat.{ℕ, zero, suc, _-_, _*_, _%_, _^_, _≤_, _<_}
+use native.Mathlib.Nat.{not-suc-le-zero, mod-eq-of-lt}
 use native.Mathlib.Omega.{arith}
-use lib.Pow.{pow-pos}
-use borrow.Author.Tests.{eq-eqb, ne-eqb}
-use Rattle.rules.specs.Sizes.{power}
+use lib.Pow.{pow-lt}
+use borrow.Author.Tests.{eq-eqb, ne-eqb, le-leb, lt-leb}
+use Rattle.rules.specs.Sizes.{isPower}
 
-one-less : (k : ℕ) → suc k - 1 ≡ k
-one-less k = omega arith
+-- what the shift computes
+pub shifted : (k : ℕ) → k < 64 → 1 * 2 ^ k % 2 ^ 64 ≡ 2 ^ k
+shifted k h = let one : 1 * 2 ^ k ≡ 2 ^ k = omega arith in rw one (mod-eq-of-lt (pow-lt h))
 
-pub hit : (n x k : ℕ) → 0 < k → n ≡ x → true ≡ power n x k
-hit n x zero h e = absurd (not-suc-le-zero h)
-hit n x (suc k) h e = rw (eq-eqb n x e)
+module _ (n low : ℕ) where
+  pub hit : (k : ℕ) → low ≤ k → n ≡ 2 ^ k → true ≡ isPower n low k
+  hit zero h e = rw (le-leb low 0 h, eq-eqb n 1 e)
+  hit (suc k) h e = rw (le-leb low (suc k) h, eq-eqb n (2 ^ suc k) e)
 
-pub miss : (n x k : ℕ) → 0 < k → (n ≡ x → ⊥) → power n x k ≡ power n (2 * x) (k - 1)
-miss n x zero h ne = absurd (not-suc-le-zero h)
-miss n x (suc k) h ne = rw (ne-eqb n x ne, one-less k)
+  pub miss : (k : ℕ) → 0 < k → low ≤ k → (n ≡ 2 ^ k → ⊥) → isPower n low k ≡ isPower n low (k - 1)
+  miss zero some h ne = absurd (not-suc-le-zero some)
+  miss (suc k) some h ne =
+      let less : suc k - 1 ≡ k = omega arith in
+      rw (le-leb low (suc k) h, ne-eqb n (2 ^ suc k) ne, less)
 
--- doubled once more and counted once less is the same
-pub doubles : (x k : ℕ) → 0 < k → 2 * x * 2 ^ (k - 1) ≡ x * 2 ^ k
-doubles x zero h = absurd (not-suc-le-zero h)
-doubles x (suc k) h = rw (one-less k, pow-suc 2 k) (omega arith)
-
--- so x doubled stays within the bound
-pub stays-below : (x k : ℕ) → 0 < k → 2 * x ≤ x * 2 ^ k
-stays-below x k h = rw (sym (doubles x k h)) (rw mul-one at (mul-le-mul-left (2 * x) (pow-pos (k - 1))))
+  -- none is below the lowest
+  pub none : (k : ℕ) → k < low → false ≡ isPower n low k
+  none zero h = rw (lt-leb low 0 h)
+  none (suc k) h = rw (lt-leb low (suc k) h)

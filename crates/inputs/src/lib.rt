@@ -3,15 +3,14 @@ mod size;
 mod walk;
 
 pub use size::bad_part;
-pub use walk::are_words;
+pub use walk::eight_words;
 pub use walk::first_word;
 pub use walk::first_word_unless;
 pub use walk::program_walk;
 ghost use mathlib.Core.Bool.{cond};
 ghost use mathlib.Core.Path.{_≡_};
 
-// What one walk over a part tells: the first row or instruction that fails, and whether all words were seen to be below p. Where they were
-// not seen, nothing is known of them.
+// What one walk over the program tells: the first malformed instruction, and whether there is none and all words are below p.
 pub struct Walked {
     pub at: usize,
     pub words: bool,

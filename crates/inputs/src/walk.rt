@@ -1,21 +1,17 @@
 // One walk over a part: the first word at or above p, the first malformed instruction.
 use crate::Walked;
-use form::Instruction;
-use form::instruction_at;
+use form::instruction_inside;
 use form::well_formed;
-use word::word_at;
 use word::word_inside;
 ghost use mathlib.Core.Path.{_≡_};
-ghost use mathlib.Core.Bool.{true, _&&_, cond};
+ghost use mathlib.Core.Bool.{true, _&&_};
 ghost use mathlib.Core.List.{[]};
-ghost use Prim.Native.Nat.{_+_, _-_, _*_, _/_, _≤_, _<_};
-ghost use lib.Dec.{leb};
+ghost use Prim.Native.Nat.{_+_, _-_, _*_, _/_, _%_, _≤_};
 ghost use lib.ListN.{length};
-ghost use Rattle.form.specs.Instruction.{instructionAt};
 ghost use Rattle.judge_spec.specs.First.{first};
 ghost use Rattle.judge_spec.specs.Judged.{isWord, firstWord, firstMalformed};
 ghost use Rattle.rules.specs.Sizes.{given};
-ghost use Rattle.inputs.specs.Words.{eightWords, AllWords};
+ghost use Rattle.inputs.specs.Words.{eightWords, AllWords, programPasses};
 
 // Whether a word that is there is one, below p.
 fn is_word(s: &[u8], k: usize) -> bool
@@ -26,7 +22,7 @@ fn is_word(s: &[u8], k: usize) -> bool
 }
 
 // The same of eight from one on, without a branch.
-fn eight_words(s: &[u8], k: usize) -> bool
+pub fn eight_words(s: &[u8], k: usize) -> bool
     requires { ⌜ 4 * k + 32 ≤ length (now s) ⌝ }
     ensures { λ r. ⌜ r ≡ eightWords (now (s .entry)) k ⌝ }
 {
@@ -38,20 +34,6 @@ fn eight_words(s: &[u8], k: usize) -> bool
         & is_word(s, k + 5)
         & is_word(s, k + 6)
         & is_word(s, k + 7)
-}
-
-// Whether eight words from one on are there, and are words.
-pub fn are_words(s: &[u8], k: usize) -> bool
-    ensures { λ r. ⌜ r ≡ (leb (k + 8) (length (now (s .entry)) / 4) && eightWords (now (s .entry)) k) ⌝ }
-{
-    let n = s.len() / 4;
-    if n < 8 {
-        return false;
-    }
-    if n - 8 < k {
-        return false;
-    }
-    eight_words(s, k)
 }
 
 // The first eight of which not all are words, or fewer than eight at the end: the search goes on from there.
@@ -77,7 +59,7 @@ pub fn first_word(bytes: &[u8]) -> usize
     let n = bytes.len() / 4;
     let mut i = first_eight(bytes);
     while i < n {
-        if 2130706433 <= word_at(bytes, 4 * i) {
+        if !is_word(bytes, i) {
             return i;
         }
         i += 1;
@@ -85,23 +67,15 @@ pub fn first_word(bytes: &[u8]) -> usize
     i
 }
 
-// The same, where no walk before has seen that there is none.
+// The same, where a walk before may have seen that there is none.
 pub fn first_word_unless(bytes: &[u8], seen: bool) -> usize
-    ensures { λ r. ⌜ r ≡ cond seen (length (now (bytes .entry)) / 4) (firstWord (now (bytes .entry))) ⌝ }
+    requires { ⌜ (seen ≡ true → AllWords (now bytes)) ⌝ }
+    ensures { λ r. ⌜ r ≡ firstWord (now (bytes .entry)) ⌝ }
 {
     if seen {
         return bytes.len() / 4;
     }
     first_word(bytes)
-}
-
-// Instruction i, which is there: it is read from its own 48 bytes with no test.
-fn instruction(program: &[u8], i: usize) -> Instruction
-    requires { ⌜ 48 * i + 48 ≤ length (now program) ⌝ }
-    ensures { λ r. ⌜ r ≡ instructionAt (now (program .entry)) (48 * i) ⌝ }
-{
-    let at = 48 * i;
-    instruction_at(&program[at..at + 48], 0)
 }
 
 // Whether the twelve words of instruction i are below p.
@@ -112,15 +86,16 @@ fn twelve_words(program: &[u8], i: usize) -> bool
     eight_words(program, 12 * i) & eight_words(program, 12 * i + 4)
 }
 
-// The first malformed instruction, their number where there is none; and, as each is read anyway, whether all words were seen to be below p.
+// The first malformed instruction, their number where there is none; and, as each is read anyway, whether there is none and all words are below p.
 pub fn program_walk(program: &[u8]) -> Walked
-    ensures { λ r. ⌜ (r .at ≡ firstMalformed (given (now (program .entry)) [])) × (r .words ≡ true → AllWords (now (program .entry))) ⌝ }
+    requires { ⌜ length (now program) % 48 ≡ 0 ⌝ }
+    ensures { λ r. ⌜ (r .at ≡ firstMalformed (given (now (program .entry)) [])) × (r .words ≡ programPasses (now (program .entry))) ⌝ }
 {
     let n = program.len() / 48;
     let mut words = true;
     let mut i = 0;
     while i < n {
-        if !well_formed(instruction(program, i)) {
+        if !well_formed(instruction_inside(program, 48 * i)) {
             return Walked {
                 at: i,
                 words: false,
@@ -129,8 +104,5 @@ pub fn program_walk(program: &[u8]) -> Walked
         words = words & twelve_words(program, i);
         i += 1;
     }
-    Walked {
-        at: i,
-        words: words & (12 * n == program.len() / 4),
-    }
+    Walked { at: i, words }
 }

@@ -1,2 +1,1 @@
-pub mod SelectedLaws
 pub mod QuickExec

@@ -14,8 +14,9 @@ use Rattle.form.proofs.Cases.{each, either}
 use Rattle.rows.specs.declared.Exec.{Exec}
 use Rattle.rules.specs.Given.{zero?}
 use Rattle.rules.specs.Execution.{ADD, DEREF}
-use Rattle.judge_exec.specs.Parts.{selectedOf, lookupsThen, addressed, addressesThen, operationsThen, jumpsThen, execFails}
-use Rattle.judge_exec.proofs.SelectedLaws.{looked-up, immediate, framed}
+use Rattle.judge_exec.specs.Parts.{lookupsThen, addressed, addressesThen, operationsThen, jumpsThen, execFails}
+use Rattle.bus_tuples.proofs.SelectedLaws.{looked-up, immediate, framed}
+use Rattle.bus_tuples.specs.Selected.{selectedOf}
 use Rattle.judge_lookups.proofs.Quick.{pass, shut-rule, same-rule, same-test}
 
 -- what is no word shows nothing
@@ -119,16 +120,16 @@ module _ (j : ℕ) (x y : Exec) (a b c : ℕ) where
       (pass 15 (shut-rule (1 -ₚ j) (y .pc -ₚ (x .pc +ₚ 1)) stay)
       (pass 16 (shut-rule (1 -ₚ j) (y .fp -ₚ x .fp) stay) refl))))
 
--- all sixteen, for what the selected values are
-pub all-hold : (count : ℕ) (memory : List ℕ) (x y : Exec) (i : Instruction) (a b c j : ℕ)
+-- all but rule 1, for what the selected values are
+pub all-hold : (memory : List ℕ) (x y : Exec) (i : Instruction) (a b c j : ℕ)
     → Shown a (i .fa) (i .fpab) (i .a) (x .addrA) (x .valueA) (x .fp)
     → Shown b (i .fb) (i .fpab) (i .b) (x .addrB) (x .valueB) (x .fp)
     → Shown c (i .fc) (i .fpc) (i .c) (x .addrC) (x .valueC) (x .fp)
     → j ≡ i .jump *ₚ a
-    → ((rest : ℕ) → lookupsThen count memory x rest ≡ rest)
+    → ((rest : ℕ) → lookupsThen memory x rest ≡ rest)
     → ((rest : ℕ) → operationsThen i x a b c rest ≡ rest)
     → jumpsThen j x y a b c 0 ≡ 0
-    → execFails count memory x y i ≡ 0
-all-hold count memory x y i a b c j sa sb sc ej looked operated moved =
+    → execFails memory x y i ≡ 0
+all-hold memory x y i a b c j sa sb sc ej looked operated moved =
     let placed : (rest : ℕ) → addressesThen i x rest ≡ rest = λ rest. pass 5 (sa .1) (pass 6 (sb .1) (pass 7 (sc .1) refl)) in
     rw (← sa .0, ← sb .0, ← sc .0, ← ej) (looked _ ∙ placed _ ∙ operated _ ∙ moved)

@@ -1,29 +1,23 @@
--- The rules of one execution row, for the code: those of `rules` in the groups in which the code walks them; each group ends in what comes after it.
+-- Inner: the rules of one execution row, those of `rules` in the groups in which the code walks them; each group ends in what comes after it.
 use mathlib.Core.Bool.{cond}
 use Prim.Native.Nat.{ℕ}
 use mathlib.Core.List.{List}
-use lib.Dec.{ltb}
 use Rattle.word.specs.Word.{_+ₚ_, _-ₚ_, _*ₚ_}
 use Rattle.form.specs.declared.Instruction.{Instruction}
 use Rattle.rows.specs.declared.Exec.{Exec}
 use Rattle.rules.specs.Given.{zero?}
 use Rattle.rules.specs.Execution.{ADD, DEREF}
 use Rattle.judge_lookups.specs.Memory.{cellIs}
+use Rattle.bus_tuples.specs.Selected.{selectedOf}
 
--- a selected value
-abbrev pub selectedOf : ℕ → ℕ → ℕ → ℕ → ℕ → ℕ
-selectedOf flag fpFlag operand value fp = flag *ₚ operand +ₚ (1 -ₚ flag -ₚ fpFlag) *ₚ value +ₚ fpFlag *ₚ (fp +ₚ operand)
-
--- rules 1 to 4
-abbrev pub lookupsThen : ℕ → List ℕ → Exec → ℕ → ℕ
-lookupsThen count memory x rest =
-    cond (ltb (x .pc) count)
-    (cond (cellIs memory (x .addrA) (x .valueA))
+-- rules 2 to 4
+abbrev pub lookupsThen : List ℕ → Exec → ℕ → ℕ
+lookupsThen memory x rest =
+    cond (cellIs memory (x .addrA) (x .valueA))
     (cond (cellIs memory (x .addrB) (x .valueB))
     (cond (cellIs memory (x .addrC) (x .valueC)) rest 4)
     3)
-    2)
-    1
+    2
 
 -- an address rule: 5, 6 or 7
 abbrev pub addressed : ℕ → ℕ → ℕ → ℕ → ℕ → ℕ
@@ -61,10 +55,10 @@ jumpsThen j x y a b c rest =
     13)
     12
 
--- all sixteen
-abbrev pub execFails : ℕ → List ℕ → Exec → Exec → Instruction → ℕ
-execFails count memory x y i =
+-- all but rule 1
+abbrev pub execFails : List ℕ → Exec → Exec → Instruction → ℕ
+execFails memory x y i =
     let a = selectedOf (i .fa) (i .fpab) (i .a) (x .valueA) (x .fp) in
     let b = selectedOf (i .fb) (i .fpab) (i .b) (x .valueB) (x .fp) in
     let c = selectedOf (i .fc) (i .fpc) (i .c) (x .valueC) (x .fp) in
-    lookupsThen count memory x (addressesThen i x (operationsThen i x a b c (jumpsThen (i .jump *ₚ a) x y a b c 0)))
+    lookupsThen memory x (addressesThen i x (operationsThen i x a b c (jumpsThen (i .jump *ₚ a) x y a b c 0)))

@@ -1,5 +1,5 @@
 // The rules of an execution row by plain comparisons, with no product of a gate: they say yes on nearly every row of an accepted table.
-// So the judge tries `exec_holds` first, and asks `exec_failing` only where that says no: the row may still be right.
+// Where they say no the row may still be right.
 use form::Instruction;
 use judge_lookups::looks_up;
 use rows::Exec;
@@ -10,7 +10,8 @@ ghost use mathlib.Core.Bool.{true};
 ghost use Prim.Native.Nat.{ℕ, _<_};
 ghost use Rattle.word.specs.Word.{p, _*ₚ_};
 ghost use Rattle.rules.specs.Given.{zero?};
-ghost use Rattle.judge_exec.specs.Parts.{selectedOf, lookupsThen, addressed, operationsThen, jumpsThen, execFails};
+ghost use Rattle.bus_tuples.specs.Selected.{selectedOf};
+ghost use Rattle.judge_exec.specs.Parts.{lookupsThen, addressed, operationsThen, jumpsThen, execFails};
 
 // What is no word, and so no selected value.
 const NONE: u32 = 4294967295;
@@ -35,13 +36,10 @@ fn picked(flag: u32, fp_flag: u32, operand: u32, addr: u32, value: u32, fp: u32)
     NONE
 }
 
-// Rules 1 to 4.
-fn found(count: usize, memory: &[u8], x: Exec) -> bool
-    ensures { λ r. ⌜ (r ≡ true → (rest : ℕ) → lookupsThen count (now (memory .entry)) x rest ≡ rest) ⌝ }
+// Rules 2 to 4.
+fn found(memory: &[u8], x: Exec) -> bool
+    ensures { λ r. ⌜ (r ≡ true → (rest : ℕ) → lookupsThen (now (memory .entry)) x rest ≡ rest) ⌝ }
 {
-    if count <= (x.pc as usize) {
-        return false;
-    }
     if !looks_up(memory, x.addrA as usize, x.valueA) {
         return false;
     }
@@ -84,9 +82,9 @@ fn moved(j: u32, x: Exec, y: Exec, a: u32, b: u32, c: u32) -> bool
     (j == 1) & (a == 1) & (y.pc == b) & (y.fp == c)
 }
 
-// Whether these comparisons show that all rules hold.
-pub fn exec_holds(count: usize, memory: &[u8], x: Exec, y: Exec, i: Instruction) -> bool
-    ensures { λ r. ⌜ (r ≡ true → execFails count (now (memory .entry)) x y i ≡ 0) ⌝ }
+// Whether these comparisons show that all rules but 1 hold.
+pub(crate) fn exec_holds(memory: &[u8], x: Exec, y: Exec, i: Instruction) -> bool
+    ensures { λ r. ⌜ (r ≡ true → execFails (now (memory .entry)) x y i ≡ 0) ⌝ }
 {
     let a = picked(i.fa, i.fpab, i.a, x.addrA, x.valueA, x.fp);
     let b = picked(i.fb, i.fpab, i.b, x.addrB, x.valueB, x.fp);
@@ -94,7 +92,7 @@ pub fn exec_holds(count: usize, memory: &[u8], x: Exec, y: Exec, i: Instruction)
     if (2130706433 <= a) | (2130706433 <= b) | (2130706433 <= c) {
         return false;
     }
-    if !found(count, memory, x) {
+    if !found(memory, x) {
         return false;
     }
     if !operated(i, x, a, b, c) {

@@ -1,4 +1,5 @@
-// The rules of an execution row, by the polynomials. The judge asks only where `exec_holds` says no.
+// The rules of an execution row, by the polynomials.
+use bus_tuples::selected;
 use form::Instruction;
 use inputs::first_of;
 use judge_lookups::gated;
@@ -11,7 +12,7 @@ ghost use mathlib.Core.Path.{_≡_};
 ghost use Rattle.word.specs.Word.{_-ₚ_};
 ghost use Rattle.rules.specs.Given.{zero?};
 ghost use Rattle.rules.specs.Execution.{ADD, DEREF};
-ghost use Rattle.judge_exec.specs.Parts.{selectedOf, lookupsThen, addressed, addressesThen, operationsThen, jumpsThen, execFails};
+ghost use Rattle.judge_exec.specs.Parts.{lookupsThen, addressed, addressesThen, operationsThen, jumpsThen, execFails};
 
 // 1 where an operand is a cell read, 0 where it is an immediate or fp + operand.
 fn reads_cell(flag: u32, fp_flag: u32) -> u32
@@ -25,36 +26,13 @@ fn reads_cell(flag: u32, fp_flag: u32) -> u32
     sub(sub(1, flag), fp_flag)
 }
 
-// An operand's selected value: immediate, looked up, or fp + operand. Only flags that are none of these take the polynomial.
-pub fn selected(flag: u32, fp_flag: u32, operand: u32, value: u32, fp: u32) -> u32
-    ensures { λ r. ⌜ r ≡ selectedOf flag «fp_flag» operand value fp ⌝ }
-{
-    if fp_flag == 0 {
-        if flag == 0 {
-            return add(value, 0);
-        }
-        if flag == 1 {
-            return add(operand, 0);
-        }
-    }
-    let cell = mul(sub(sub(1, flag), fp_flag), value);
-    add(
-        add(mul(flag, operand), cell),
-        mul(fp_flag, add(fp, operand)),
-    )
-}
-
-fn lookups(count: usize, memory: &[u8], x: Exec, rest: u32) -> u32
-    ensures { λ r. ⌜ r ≡ lookupsThen count (now (memory .entry)) x rest ⌝ }
+fn lookups(memory: &[u8], x: Exec, rest: u32) -> u32
+    ensures { λ r. ⌜ r ≡ lookupsThen (now (memory .entry)) x rest ⌝ }
 {
     let a = looks_up(memory, x.addrA as usize, x.valueA);
     let b = looks_up(memory, x.addrB as usize, x.valueB);
     let c = looks_up(memory, x.addrC as usize, x.valueC);
-    first_of(
-        1,
-        (x.pc as usize) < count,
-        first_of(2, a, first_of(3, b, first_of(4, c, rest))),
-    )
+    first_of(2, a, first_of(3, b, first_of(4, c, rest)))
 }
 
 fn address_holds(flag: u32, fp_flag: u32, addr: u32, fp: u32, operand: u32) -> bool
@@ -129,16 +107,15 @@ fn jumps(j: u32, x: Exec, y: Exec, a: u32, b: u32, c: u32) -> u32
     first_of(12, condition, first_of(13, dest, first_of(14, frame, last)))
 }
 
-// The first execution rule that fails on a row x paired with y, and 0 where all hold.
-pub fn exec_failing(count: usize, memory: &[u8], x: Exec, y: Exec, i: Instruction) -> u32
-    ensures { λ r. ⌜ r ≡ execFails count (now (memory .entry)) x y i ⌝ }
+// The first rule after rule 1 that fails, and 0 where all hold.
+pub(crate) fn exec_computed(memory: &[u8], x: Exec, y: Exec, i: Instruction) -> u32
+    ensures { λ r. ⌜ r ≡ execFails (now (memory .entry)) x y i ⌝ }
 {
     let a = selected(i.fa, i.fpab, i.a, x.valueA, x.fp);
     let b = selected(i.fb, i.fpab, i.b, x.valueB, x.fp);
     let c = selected(i.fc, i.fpc, i.c, x.valueC, x.fp);
     let last = jumps(mul(i.jump, a), x, y, a, b, c);
     lookups(
-        count,
         memory,
         x,
         addresses(i, x, operations(i, x, a, b, c, last)),

@@ -1,4 +1,4 @@
--- The rules of one extension row, for the code: those of `rules` in the groups in which the code walks them; each group ends in what comes after it.
+-- Inner: the rules of one extension row, those of `rules` in the groups in which the code walks them; each group ends in what comes after it.
 use mathlib.Core.Bool.{cond}
 use Prim.Native.Nat.{ℕ}
 use mathlib.Core.List.{List}

@@ -128,7 +128,7 @@ fn operates(x: Ext, y: Ext, rest: u32) -> u32
 }
 
 // A row with no operation, as padding is, has only rule 9.
-pub fn accumulates(x: Ext, y: Ext, rest: u32) -> u32
+pub(crate) fn accumulates(x: Ext, y: Ext, rest: u32) -> u32
     ensures { λ r. ⌜ r ≡ accumulatesThen x y (selected x) (compTail y) rest ⌝ }
 {
     let comp = x.comp;

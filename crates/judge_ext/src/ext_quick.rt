@@ -1,5 +1,5 @@
 // The rules of an extension row but 6 to 9 by plain comparisons, with no product of a gate: they say yes on nearly every row of an accepted table.
-// So the judge tries `ext_holds` first, and asks `ext_failing` only where that says no: the row may still be right.
+// Where they say no the row may still be right.
 use crate::accumulation::accumulates;
 use judge_lookups::looks_up;
 use judge_lookups::looks_up_five;
@@ -94,7 +94,7 @@ fn others_hold(memory: &[u8], x: Ext, y: Ext) -> bool
 }
 
 // Whether these comparisons and rules 6 to 9 show that all rules hold.
-pub fn ext_holds(memory: &[u8], x: Ext, y: Ext) -> bool
+pub(crate) fn ext_holds(memory: &[u8], x: Ext, y: Ext) -> bool
     ensures { λ r. ⌜ (r ≡ true → extFails (now (memory .entry)) x y ≡ 0) ⌝ }
 {
     if !others_hold(memory, x, y) {

@@ -1,4 +1,4 @@
-// The rules of an extension row, by the polynomials. The judge asks only where `ext_holds` says no.
+// The rules of an extension row, by the polynomials.
 use crate::accumulation::accumulates;
 use inputs::first_of;
 use judge_lookups::gated;
@@ -76,8 +76,8 @@ fn steps(inside: u32, x: Ext, y: Ext) -> u32
     first_of(15, a, first_of(16, b, first_of(17, last, 0)))
 }
 
-// The first extension rule that fails on a row x paired with y, and 0 where all hold.
-pub fn ext_failing(memory: &[u8], x: Ext, y: Ext) -> u32
+// The first rule that fails, and 0 where all hold.
+pub(crate) fn ext_computed(memory: &[u8], x: Ext, y: Ext) -> u32
     ensures { λ r. ⌜ r ≡ extFails (now (memory .entry)) x y ⌝ }
 {
     let inside = sub(1, y.start);

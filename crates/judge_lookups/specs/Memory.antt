@@ -1,4 +1,4 @@
--- Lookups into a memory's bytes: what `looksUp` and `looksUpFive` of `rules` come to there.
+-- Inner: lookups into a memory's bytes: what `looksUp` and `looksUpFive` of `rules` come to there.
 use Prim.Native.Nat.{ℕ, _+_, _*_, _/_}
 use mathlib.Core.Bool.{Bool, _&&_}
 use mathlib.Core.List.{List}

@@ -6,7 +6,8 @@ use native.Mathlib.Omega.{arith}
 use lib.Dec.{T, eqb, eqb→eq}
 use borrow.Author.Tests.{eqb-true, eqb-false, eq-eqb, ne-eqb}
 use Rattle.rules.specs.Given.{Given, Tables, zero?}
-use Rattle.rules.specs.Bus.{Tuple, sameTuple, pushed, pushes, pulled, pulls, total, pushedTo, pulledTo, instructionOf, balanced}
+use Rattle.rules.specs.Bus.{Tuple, sameTuple, pushes, pulled, pulls, total, pushedTo, pulledTo, instructionOf, balanced}
+use Rattle.judge_spec.specs.Judged.{pushedAt}
 use Rattle.judge_spec.specs.Refusal.{Equal, PushEqual, PullEqual}
 use Rattle.judge_spec.proofs.Cases.{both}
 
@@ -67,7 +68,7 @@ module _ (g : Given) (t : Tables) where
   -- every tuple is equal where every row's is
   pub bus-equal : ((r : ℕ) → r < t .height → PushEqual g t r) → ((r : ℕ) → r < t .extHeight → PullEqual g t r) → (σ : Tuple) → Equal g t σ
   bus-equal pushing pulling σ =
-      total-cases (λ r. cond (sameTuple (push r) σ) (pushes (instructionOf g t r)) 0) (t .height) (Equal g t σ)
+      total-cases (λ r. cond (sameTuple (pushedAt g t r) σ) (pushes (instructionOf g t r)) 0) (t .height) (Equal g t σ)
       (λ none-pushed.
       total-cases (λ r. cond (sameTuple (pulled (t .ext r)) σ) (pulls (t .ext r)) 0) (t .extHeight) (Equal g t σ)
       (λ none-pulled. none-pushed ∙ sym none-pulled)
@@ -75,8 +76,5 @@ module _ (g : Given) (t : Tables) where
       let k = counts (sameTuple (pulled (t .ext r)) σ) (pulls (t .ext r)) c in
       subst (Equal g t) (same (pulled (t .ext r)) σ (k .0)) (pulling r h (k .1))))
       (λ r h c.
-      let k = counts (sameTuple (push r) σ) (pushes (instructionOf g t r)) c in
-      subst (Equal g t) (same (push r) σ (k .0)) (pushing r h (k .1)))
-    where
-      push : ℕ → Tuple
-      push r = pushed (instructionOf g t r) (t .exec r)
+      let k = counts (sameTuple (pushedAt g t r) σ) (pushes (instructionOf g t r)) c in
+      subst (Equal g t) (same (pushedAt g t r) σ (k .0)) (pushing r h (k .1)))

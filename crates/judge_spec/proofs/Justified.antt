@@ -1,5 +1,5 @@
 -- Every answer of the judge holds: no row, word or rule number is made up, and an acceptance is a proof that the tables satisfy the constraints.
--- Read from the last test to the first: given that the tests before passed, the answer from a test on is right.
+-- PassedTwo from the last test to the first: given that the tests before passed, the answer from a test on is right.
 use mathlib.Core.Path.{_≡_, refl}
 use mathlib.Core.Logic.{inl, inr}
 use mathlib.Core.Bool.{false, cond}
@@ -8,12 +8,12 @@ use native.Mathlib.Omega.{arith}
 use lib.Dec.{T}
 use Rattle.answer.specs.declared.Answer.{Answer}
 use Rattle.answer.specs.declared.Answer.the-variants.{Accepted, Size, Exec as ExecRefused, Extension, Bus}
-use Rattle.rules.specs.Given.{next}
-use Rattle.rules.specs.Bus.{pushed, pushes, pulled, pulls, instructionOf}
+use Rattle.rules.specs.Given.{Given, Tables, next}
+use Rattle.rules.specs.Bus.{pushes, pulled, pulls, instructionOf}
 use Rattle.rules.specs.Sizes.{Parts, givenOf, tablesOf}
 use Rattle.rules.specs.Satisfies.{Words, Satisfies}
-use Rattle.judge_spec.specs.Judged.{words, execRulesAt, extRulesAt, judgeOf}
-use Rattle.judge_spec.specs.Refusal.{part, fits, Read, Formed, Started, Executed, Extended, PushEqual, PullEqual, Says}
+use Rattle.judge_spec.specs.Judged.{words, execRulesAt, extRulesAt, pushedAt, judgeOf}
+use Rattle.judge_spec.specs.Refusal.{part, partFits, PassedTwo, PassedThree, PassedFour, PassedFive, PassedSix, PushEqual, PullEqual, Says}
 use Rattle.judge_spec.proofs.PartNumbers.{one-more, every-from}
 use Rattle.judge_spec.proofs.Stages.{judgeBus, judgeExtension, judgeExecution, judgeStart, judgeProgram, judgeWords}
 use Rattle.judge_spec.proofs.RuleLaws.{exec-numbered, ext-numbered}
@@ -22,13 +22,19 @@ use Rattle.judge_spec.proofs.Cases.{chosen}
 use Rattle.judge_spec.proofs.StageCases.{words-cases, instructions-cases, start-cases, rows-cases, tuples-cases}
 
 module _ (q : Parts) where
-  satisfied : Extended q
-      → ((r : ℕ) → r < tablesOf q .height → PushEqual (givenOf q) (tablesOf q) r)
-      → ((r : ℕ) → r < tablesOf q .extHeight → PullEqual (givenOf q) (tablesOf q) r)
+  abbrev g : Given
+  g = givenOf q
+
+  abbrev t : Tables
+  t = tablesOf q
+
+  satisfied : PassedSix q
+      → ((r : ℕ) → r < t .height → PushEqual g t r)
+      → ((r : ℕ) → r < t .extHeight → PullEqual g t r)
       → Satisfies q
   satisfied x pushing pulling =
-      let s = x .executed .started in
-      let read = s .formed .read in
+      let s = x .five .four in
+      let read = s .three .two in
       record {
         program-size = read .sizes 1;
         memory-size = read .sizes 2;
@@ -38,69 +44,63 @@ module _ (q : Parts) where
         memory-words = read .words 2;
         exec-words = read .words 3;
         ext-words = read .words 4;
-        instructions = s .formed .instructions;
+        instructions = s .three .instructions;
         start-pc = s .start-pc;
         start-fp = s .start-fp;
         constraints =
             record {
-              execution = x .executed .execution;
+              execution = x .five .execution;
               extension = x .extension;
-              bus = bus-equal (givenOf q) (tablesOf q) pushing pulling;
+              bus = bus-equal g t pushing pulling;
             };
       }
 
-  from-bus : Extended q → Says q (judgeBus q)
+  from-bus : PassedSix q → Says q (judgeBus q)
   unfolding Says
   from-bus x =
-      tuples-cases _ (Says q) (givenOf q) (tablesOf q)
-      (λ r. pushes (instructionOf (givenOf q) (tablesOf q) r))
-      (λ r. pushed (instructionOf (givenOf q) (tablesOf q) r) (tablesOf q .exec r))
-      (tablesOf q .height) (Bus 3)
+      tuples-cases _ (Says q) g t (λ r. pushes (instructionOf g t r)) (pushedAt g t) (t .height) (Bus 3)
       (λ pushing.
-      tuples-cases Accepted (Says q) (givenOf q) (tablesOf q)
-      (λ r. pulls (tablesOf q .ext r))
-      (λ r. pulled (tablesOf q .ext r))
-      (tablesOf q .extHeight) (Bus 4)
+      tuples-cases Accepted (Says q) g t (λ r. pulls (t .ext r)) (λ r. pulled (t .ext r)) (t .extHeight) (Bus 4)
       (λ pulling. satisfied x pushing pulling)
       (λ r h before pulls-it bad.
-      inr (refl, record { extended = x; pushes-equal = pushing; before = before; inside = h; pulling = pulls-it; bad = bad })))
+      inr (refl, record { six = x; pushes-equal = pushing; before = before; inside = h; pulling = pulls-it; bad = bad })))
       (λ r h before pushes-it bad.
-      inl (refl, record { extended = x; before = before; inside = h; pushing = pushes-it; bad = bad }))
+      inl (refl, record { six = x; before = before; inside = h; pushing = pushes-it; bad = bad }))
 
-  from-extension : Executed q → Says q (judgeExtension q)
+  from-extension : PassedFive q → Says q (judgeExtension q)
   unfolding Says
   from-extension x =
-      rows-cases _ (Says q) (extRulesAt (givenOf q) (tablesOf q)) (tablesOf q .extHeight) Extension
-      (λ r. ext-numbered (givenOf q) (tablesOf q .ext r) (tablesOf q .ext (next (tablesOf q .extHeight) r)))
-      (λ all. from-bus (record { executed = x; extension = all }))
-      (λ r h before bad. record { executed = x; before = before; inside = h; bad = bad })
+      rows-cases _ (Says q) (extRulesAt g t) (t .extHeight) Extension
+      (λ r. ext-numbered g (t .ext r) (t .ext (next (t .extHeight) r)))
+      (λ all. from-bus (record { five = x; extension = all }))
+      (λ r h before bad. record { five = x; before = before; inside = h; bad = bad })
 
-  from-execution : Started q → Says q (judgeExecution q)
+  from-execution : PassedFour q → Says q (judgeExecution q)
   unfolding Says
   from-execution x =
-      rows-cases _ (Says q) (execRulesAt (givenOf q) (tablesOf q)) (tablesOf q .height) ExecRefused
+      rows-cases _ (Says q) (execRulesAt g t) (t .height) ExecRefused
       (λ r.
-      exec-numbered (givenOf q) (tablesOf q .exec r) (tablesOf q .exec (next (tablesOf q .height) r))
-      (instructionOf (givenOf q) (tablesOf q) r))
-      (λ all. from-extension (record { started = x; execution = all }))
-      (λ r h before bad. record { started = x; before = before; inside = h; bad = bad })
+      exec-numbered g (t .exec r) (t .exec (next (t .height) r))
+      (instructionOf g t r))
+      (λ all. from-extension (record { four = x; execution = all }))
+      (λ r h before bad. record { four = x; before = before; inside = h; bad = bad })
 
-  from-start : Formed q → Says q (judgeStart q)
+  from-start : PassedThree q → Says q (judgeStart q)
   unfolding Says
   from-start x =
-      start-cases (judgeExecution q) (Says q) (tablesOf q) (q .pc) (q .fp)
-      (λ a b. from-execution (record { formed = x; start-pc = a; start-fp = b }))
-      (λ bad. record { formed = x; bad = bad })
+      start-cases (judgeExecution q) (Says q) t (q .pc) (q .fp)
+      (λ a b. from-execution (record { three = x; start-pc = a; start-fp = b }))
+      (λ bad. record { three = x; bad = bad })
 
-  from-instructions : Read q → Says q (judgeProgram q)
+  from-instructions : PassedTwo q → Says q (judgeProgram q)
   unfolding Says
   from-instructions x =
-      instructions-cases (judgeStart q) (Says q) (givenOf q)
-      (λ all. from-start (record { read = x; instructions = all }))
-      (λ i h before bad. record { read = x; before = before; inside = h; bad = bad })
+      instructions-cases (judgeStart q) (Says q) g
+      (λ all. from-start (record { two = x; instructions = all }))
+      (λ i h before bad. record { two = x; before = before; inside = h; bad = bad })
 
   -- the words of part n, whose tests of the parts before passed, with the next test's answer
-  from-words : ((m : ℕ) → T (fits q m)) → (n : ℕ) (then : Answer)
+  from-words : ((m : ℕ) → T (partFits q m)) → (n : ℕ) (then : Answer)
       → (((m : ℕ) → m < suc n → Words (part q m)) → Says q then)
       → ((m : ℕ) → m < n → Words (part q m)) → Says q (words n (part q n) then)
   unfolding Says
@@ -109,7 +109,7 @@ module _ (q : Parts) where
       (λ w. pass (one-more (λ m. Words (part q m)) n earlier w))
       (λ k h before bad. record { sizes = sized; parts-before = earlier; before = before; inside = h; bad = bad })
 
-  from-part-1 : ((m : ℕ) → T (fits q m)) → Says q (judgeWords q)
+  from-part-1 : ((m : ℕ) → T (partFits q m)) → Says q (judgeWords q)
   from-part-1 sized =
       from-words sized 1 _
       (from-words sized 2 _
@@ -119,7 +119,7 @@ module _ (q : Parts) where
       (one-more (λ m. Words (part q m)) 0 (λ m h. absurd (omega arith)) (λ k h. absurd (omega arith)))
 
   -- the length of part n, where those of the parts before are right
-  bad-size : (n : ℕ) → ((m : ℕ) → m < n → T (fits q m)) → fits q n ≡ false → Says q (Size n 0)
+  bad-size : (n : ℕ) → ((m : ℕ) → m < n → T (partFits q m)) → partFits q n ≡ false → Says q (Size n 0)
   unfolding Says
   bad-size n earlier bad = record { before = earlier; bad = bad; unnamed = refl }
 
@@ -127,13 +127,13 @@ module _ (q : Parts) where
   unfolding judgeOf
   justified =
       from-size 1 _ (from-size 2 _ (from-size 3 _ (from-size 4 _
-      (λ all. from-part-1 (every-from (λ m. T (fits q m)) all (λ m. tt))))))
-      (one-more (λ m. T (fits q m)) 0 (λ m h. absurd (omega arith)) tt)
+      (λ all. from-part-1 (every-from (λ m. T (partFits q m)) all (λ m. tt))))))
+      (one-more (λ m. T (partFits q m)) 0 (λ m h. absurd (omega arith)) tt)
     where
       from-size : (n : ℕ) (then : Answer)
-          → (((m : ℕ) → m < suc n → T (fits q m)) → Says q then)
-          → ((m : ℕ) → m < n → T (fits q m)) → Says q (cond (fits q n) then (Size n 0))
+          → (((m : ℕ) → m < suc n → T (partFits q m)) → Says q then)
+          → ((m : ℕ) → m < n → T (partFits q m)) → Says q (cond (partFits q n) then (Size n 0))
       from-size n then pass earlier =
-          chosen (fits q n) then (Size n 0) (Says q)
-          (λ t. pass (one-more (λ m. T (fits q m)) n earlier t))
+          chosen (partFits q n) then (Size n 0) (Says q)
+          (λ t. pass (one-more (λ m. T (partFits q m)) n earlier t))
           (bad-size n earlier)

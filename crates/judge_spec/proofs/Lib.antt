@@ -1,6 +1,7 @@
 pub mod FirstLaws
 pub mod RuleLaws
 pub mod Cases
+pub mod Lengths
 pub mod PartNumbers
 pub mod Stages
 pub mod BusLaws

@@ -7,12 +7,12 @@ use native.Mathlib.Omega.{arith}
 use lib.Dec.{T}
 use Rattle.answer.specs.declared.Answer.{Answer}
 use Rattle.answer.specs.declared.Answer.the-variants.{Accepted, Size, Word, Instruction, Start, Exec as ExecRefused, Extension, Bus, Label, Stuck, Room, Open, Itself, Buffer}
-use Rattle.rules.specs.Given.{next}
-use Rattle.rules.specs.Bus.{pushed, pushes, pulled, pulls, instructionOf}
+use Rattle.rules.specs.Given.{Given, Tables, next}
+use Rattle.rules.specs.Bus.{pushes, pulled, pulls, instructionOf}
 use Rattle.rules.specs.Sizes.{Parts, givenOf, tablesOf}
 use Rattle.rules.specs.Satisfies.{Words, Satisfies}
-use Rattle.judge_spec.specs.Judged.{execRulesAt, extRulesAt, judgeOf}
-use Rattle.judge_spec.specs.Refusal.{part, fits, BadSize, BadWord, BadExec, BadExtension, BadPush, BadPull, Read, Formed, Started, Executed, Extended, PushEqual, Says}
+use Rattle.judge_spec.specs.Judged.{execRulesAt, extRulesAt, pushedAt, judgeOf}
+use Rattle.judge_spec.specs.Refusal.{part, partFits, BadSize, BadWord, BadExec, BadExtension, BadPush, BadPull, PassedTwo, PassedThree, PassedFour, PassedFive, PassedSix, PushEqual, Says}
 use Rattle.judge_spec.proofs.PartNumbers.{every}
 use Rattle.judge_spec.proofs.Stages.{judgePulls, judgeBus, judgeExtension, judgeExecution, judgeStart, judgeProgram, judgeWords}
 use Rattle.judge_spec.proofs.RuleLaws.{exec-numbered, ext-numbered}
@@ -20,12 +20,18 @@ use Rattle.judge_spec.proofs.Cases.{passed, failed}
 use Rattle.judge_spec.proofs.StageLaws.{words-pass, words-fail, instructions-pass, instructions-fail, start-pass, start-fail, rows-pass, rows-fail, tuples-pass, tuples-fail}
 
 module _ (q : Parts) where
-  -- the judge's answer where the tests before a test passed
-  sized : ((m : ℕ) → T (fits q m)) → judgeOf q ≡ judgeWords q
-  unfolding judgeOf
-  sized s = passed (fits q 1) _ _ (s 1) ∙ passed (fits q 2) _ _ (s 2) ∙ passed (fits q 3) _ _ (s 3) ∙ passed (fits q 4) _ _ (s 4)
+  abbrev g : Given
+  g = givenOf q
 
-  read : Read q → judgeOf q ≡ judgeProgram q
+  abbrev t : Tables
+  t = tablesOf q
+
+  -- the judge's answer where the tests before a test passed
+  sized : ((m : ℕ) → T (partFits q m)) → judgeOf q ≡ judgeWords q
+  unfolding judgeOf
+  sized s = passed (partFits q 1) _ _ (s 1) ∙ passed (partFits q 2) _ _ (s 2) ∙ passed (partFits q 3) _ _ (s 3) ∙ passed (partFits q 4) _ _ (s 4)
+
+  read : PassedTwo q → judgeOf q ≡ judgeProgram q
   read x =
       sized (x .sizes)
       ∙ words-pass _ 1 (q .program) (x .words 1)
@@ -33,70 +39,64 @@ module _ (q : Parts) where
       ∙ words-pass _ 3 (q .exec) (x .words 3)
       ∙ words-pass _ 4 (q .ext) (x .words 4)
 
-  formed : Formed q → judgeOf q ≡ judgeStart q
-  formed x = read (x .read) ∙ instructions-pass _ (givenOf q) (x .instructions)
+  formed : PassedThree q → judgeOf q ≡ judgeStart q
+  formed x = read (x .two) ∙ instructions-pass _ g (x .instructions)
 
-  started : Started q → judgeOf q ≡ judgeExecution q
-  started x = formed (x .formed) ∙ start-pass _ (tablesOf q) (q .pc) (q .fp) (x .start-pc) (x .start-fp)
+  started : PassedFour q → judgeOf q ≡ judgeExecution q
+  started x = formed (x .three) ∙ start-pass _ t (q .pc) (q .fp) (x .start-pc) (x .start-fp)
 
-  executed : Executed q → judgeOf q ≡ judgeExtension q
+  executed : PassedFive q → judgeOf q ≡ judgeExtension q
   executed x =
-      started (x .started) ∙ rows-pass _ (execRulesAt (givenOf q) (tablesOf q)) (tablesOf q .height) ExecRefused (x .execution)
+      started (x .four) ∙ rows-pass _ (execRulesAt g t) (t .height) ExecRefused (x .execution)
 
-  extended : Extended q → judgeOf q ≡ judgeBus q
+  extended : PassedSix q → judgeOf q ≡ judgeBus q
   extended x =
-      executed (x .executed) ∙ rows-pass _ (extRulesAt (givenOf q) (tablesOf q)) (tablesOf q .extHeight) Extension (x .extension)
+      executed (x .five) ∙ rows-pass _ (extRulesAt g t) (t .extHeight) Extension (x .extension)
 
-  pushed-all : Extended q → ((r : ℕ) → r < tablesOf q .height → PushEqual (givenOf q) (tablesOf q) r) → judgeOf q ≡ judgePulls q
+  pushed-all : PassedSix q → ((r : ℕ) → r < t .height → PushEqual g t r) → judgeOf q ≡ judgePulls q
   pushed-all x all =
       extended x
-      ∙ tuples-pass _ (givenOf q) (tablesOf q)
-      (λ r. pushes (instructionOf (givenOf q) (tablesOf q) r))
-      (λ r. pushed (instructionOf (givenOf q) (tablesOf q) r) (tablesOf q .exec r))
-      (tablesOf q .height) (Bus 3) all
+      ∙ tuples-pass _ g t (λ r. pushes (instructionOf g t r)) (pushedAt g t) (t .height) (Bus 3) all
 
   push-refused : (r : ℕ) → BadPush q r → judgeOf q ≡ Bus 3 r
   push-refused r x =
-      extended (x .extended)
-      ∙ tuples-fail _ (givenOf q) (tablesOf q)
-      (λ r. pushes (instructionOf (givenOf q) (tablesOf q) r))
-      (λ r. pushed (instructionOf (givenOf q) (tablesOf q) r) (tablesOf q .exec r))
-      (tablesOf q .height) (Bus 3) r (x .inside) (x .before) (x .pushing) (x .bad)
+      extended (x .six)
+      ∙ tuples-fail _ g t (λ r. pushes (instructionOf g t r)) (pushedAt g t) (t .height) (Bus 3) r (x .inside) (x .before) (x .pushing) (x .bad)
 
   pull-refused : (r : ℕ) → BadPull q r → judgeOf q ≡ Bus 4 r
   pull-refused r x =
-      pushed-all (x .extended) (x .pushes-equal)
-      ∙ tuples-fail Accepted (givenOf q) (tablesOf q) (λ r. pulls (tablesOf q .ext r)) (λ r. pulled (tablesOf q .ext r))
-      (tablesOf q .extHeight) (Bus 4) r (x .inside) (x .before) (x .pulling) (x .bad)
+      pushed-all (x .six) (x .pushes-equal)
+      ∙ tuples-fail Accepted g t (λ r. pulls (t .ext r)) (λ r. pulled (t .ext r))
+      (t .extHeight) (Bus 4) r (x .inside) (x .before) (x .pulling) (x .bad)
 
   exec-refused : (r n : ℕ) → BadExec q r n → judgeOf q ≡ ExecRefused r n
   exec-refused r n x =
-      started (x .started)
-      ∙ rows-fail _ (execRulesAt (givenOf q) (tablesOf q)) (tablesOf q .height) ExecRefused r n
-      (exec-numbered (givenOf q) (tablesOf q .exec r) (tablesOf q .exec (next (tablesOf q .height) r)) (instructionOf (givenOf q) (tablesOf q) r))
+      started (x .four)
+      ∙ rows-fail _ (execRulesAt g t) (t .height) ExecRefused r n
+      (exec-numbered g (t .exec r) (t .exec (next (t .height) r)) (instructionOf g t r))
       (x .inside) (x .before) (x .bad)
 
   ext-refused : (r n : ℕ) → BadExtension q r n → judgeOf q ≡ Extension r n
   ext-refused r n x =
-      executed (x .executed)
-      ∙ rows-fail _ (extRulesAt (givenOf q) (tablesOf q)) (tablesOf q .extHeight) Extension r n
-      (ext-numbered (givenOf q) (tablesOf q .ext r) (tablesOf q .ext (next (tablesOf q .extHeight) r)))
+      executed (x .five)
+      ∙ rows-fail _ (extRulesAt g t) (t .extHeight) Extension r n
+      (ext-numbered g (t .ext r) (t .ext (next (t .extHeight) r)))
       (x .inside) (x .before) (x .bad)
 
   size-refused : (n place : ℕ) → BadSize q n place → judgeOf q ≡ Size n 0
   unfolding judgeOf
   size-refused zero place x = absurd (true≢false (x .bad))
-  size-refused (suc zero) place x = failed (fits q 1) _ _ (x .bad)
-  size-refused (suc (suc zero)) place x = passed (fits q 1) _ _ (x .before 1 (omega arith)) ∙ failed (fits q 2) _ _ (x .bad)
+  size-refused (suc zero) place x = failed (partFits q 1) _ _ (x .bad)
+  size-refused (suc (suc zero)) place x = passed (partFits q 1) _ _ (x .before 1 (omega arith)) ∙ failed (partFits q 2) _ _ (x .bad)
   size-refused (suc (suc (suc zero))) place x =
-      passed (fits q 1) _ _ (x .before 1 (omega arith))
-      ∙ passed (fits q 2) _ _ (x .before 2 (omega arith))
-      ∙ failed (fits q 3) _ _ (x .bad)
+      passed (partFits q 1) _ _ (x .before 1 (omega arith))
+      ∙ passed (partFits q 2) _ _ (x .before 2 (omega arith))
+      ∙ failed (partFits q 3) _ _ (x .bad)
   size-refused (suc (suc (suc (suc zero)))) place x =
-      passed (fits q 1) _ _ (x .before 1 (omega arith))
-      ∙ passed (fits q 2) _ _ (x .before 2 (omega arith))
-      ∙ passed (fits q 3) _ _ (x .before 3 (omega arith))
-      ∙ failed (fits q 4) _ _ (x .bad)
+      passed (partFits q 1) _ _ (x .before 1 (omega arith))
+      ∙ passed (partFits q 2) _ _ (x .before 2 (omega arith))
+      ∙ passed (partFits q 3) _ _ (x .before 3 (omega arith))
+      ∙ failed (partFits q 4) _ _ (x .bad)
   size-refused (suc (suc (suc (suc (suc n))))) place x = absurd (true≢false (x .bad))
 
   word-refused : (n k : ℕ) → BadWord q n k → judgeWords q ≡ Word n k
@@ -116,46 +116,30 @@ module _ (q : Parts) where
       ∙ words-fail _ 4 (q .ext) k (x .inside) (x .before) (x .bad)
   word-refused (suc (suc (suc (suc (suc n))))) k x = absurd (omega (arith, x .inside))
 
-  satisfied : Satisfies q → Extended q
+  satisfied : Satisfies q → PassedSix q
   satisfied s =
-      record {
-        executed =
-            record {
-              started =
-                  record {
-                    formed =
-                        record {
-                          read =
-                              record {
-                                sizes = every (λ m. T (fits q m)) tt (s .program-size) (s .memory-size) (s .exec-size) (s .ext-size) (λ m. tt);
-                                words =
-                                    every (λ m. Words (part q m)) (λ k h. absurd (omega arith))
-                                    (s .program-words) (s .memory-words) (s .exec-words) (s .ext-words)
-                                    (λ m k h. absurd (omega arith));
-                              };
-                          instructions = s .instructions;
-                        };
-                    start-pc = s .start-pc;
-                    start-fp = s .start-fp;
-                  };
-              execution = s .constraints .execution;
-            };
-        extension = s .constraints .extension;
-      }
+      let sizes = every (λ m. T (partFits q m)) tt (s .program-size) (s .memory-size) (s .exec-size) (s .ext-size) (λ m. tt) in
+      let words =
+      every (λ m. Words (part q m)) (λ k h. absurd (omega arith)) (s .program-words) (s .memory-words) (s .exec-words) (s .ext-words)
+      (λ m k h. absurd (omega arith)) in
+      let two : PassedTwo q = record { sizes = sizes; words = words } in
+      let three : PassedThree q = record { two = two; instructions = s .instructions } in
+      let four : PassedFour q = record { three = three; start-pc = s .start-pc; start-fp = s .start-fp } in
+      record { five = record { four = four; execution = s .constraints .execution }; extension = s .constraints .extension }
 
   accepted : Satisfies q → judgeOf q ≡ Accepted
   accepted s =
-      pushed-all (satisfied s) (λ r h c. s .constraints .bus (pushed (instructionOf (givenOf q) (tablesOf q) r) (tablesOf q .exec r)))
-      ∙ tuples-pass Accepted (givenOf q) (tablesOf q) (λ r. pulls (tablesOf q .ext r)) (λ r. pulled (tablesOf q .ext r))
-      (tablesOf q .extHeight) (Bus 4) (λ r h c. s .constraints .bus (pulled (tablesOf q .ext r)))
+      pushed-all (satisfied s) (λ r h c. s .constraints .bus (pushedAt g t r))
+      ∙ tuples-pass Accepted g t (λ r. pulls (t .ext r)) (λ r. pulled (t .ext r))
+      (t .extHeight) (Bus 4) (λ r h c. s .constraints .bus (pulled (t .ext r)))
 
   pub only : (a : Answer) → Says q a → judgeOf q ≡ a
   unfolding Says
   only Accepted x = accepted x
   only (Size n place) x = size-refused n place x ∙ ap (Size n) (sym (x .unnamed))
   only (Word n k) x = sized (x .sizes) ∙ word-refused n k x
-  only (Instruction i) x = read (x .read) ∙ instructions-fail _ (givenOf q) i (x .inside) (x .before) (x .bad)
-  only Start x = formed (x .formed) ∙ start-fail _ (tablesOf q) (q .pc) (q .fp) (x .bad)
+  only (Instruction i) x = read (x .two) ∙ instructions-fail _ g i (x .inside) (x .before) (x .bad)
+  only Start x = formed (x .three) ∙ start-fail _ t (q .pc) (q .fp) (x .bad)
   only (ExecRefused r n) x = exec-refused r n x
   only (Extension r n) x = ext-refused r n x
   only (Bus n r) (inl x) = push-refused r (x .1) ∙ ap (λ (m : ℕ). Bus m r) (sym (x .0))

@@ -15,7 +15,7 @@ use Rattle.rules.specs.Bus.{Tuple, balanced}
 use Rattle.rules.specs.Sizes.{wordOf}
 use Rattle.rules.specs.Satisfies.{All, Words}
 use Rattle.judge_spec.specs.First.{failing}
-use Rattle.judge_spec.specs.Judged.{isWord, words, instructions, start}
+use Rattle.judge_spec.specs.Judged.{isWord, words, instructions, startsAt}
 use Rattle.judge_spec.specs.Refusal.{FirstFailing, Equal}
 use Rattle.judge_spec.proofs.Stages.{rowStage, tupleStage}
 use Rattle.judge_spec.proofs.RuleLaws.{Numbered, failing-holds, failing-first}
@@ -44,7 +44,7 @@ module _ (then : Answer) (Holds : Answer → Type 0) where
   pub start-cases : (t : Tables) (pc fp : ℕ)
       → (t .exec 0 .pc ≡ pc → t .exec 0 .fp ≡ fp → Holds then)
       → ((t .exec 0 .pc ≡ pc → t .exec 0 .fp ≡ fp → ⊥) → Holds Start)
-      → Holds (start t pc fp then)
+      → Holds (startsAt t pc fp then)
   start-cases t pc fp pass fail =
       chosen (eqb (t .exec 0 .pc) pc && eqb (t .exec 0 .fp) fp) then Start Holds
       (λ h.

@@ -15,7 +15,7 @@ use Rattle.rules.specs.Bus.{Tuple, balanced}
 use Rattle.rules.specs.Sizes.{wordOf}
 use Rattle.rules.specs.Satisfies.{All, Words}
 use Rattle.judge_spec.specs.First.{failing}
-use Rattle.judge_spec.specs.Judged.{isWord, words, instructions, start}
+use Rattle.judge_spec.specs.Judged.{isWord, words, instructions, startsAt}
 use Rattle.judge_spec.specs.Refusal.{FirstFailing, Equal}
 use Rattle.judge_spec.proofs.Stages.{rowStage, tupleStage}
 use Rattle.judge_spec.proofs.RuleLaws.{Numbered, holds-failing, first-failing, first-nonzero}
@@ -46,13 +46,13 @@ module _ (then : Answer) where
       (λ j b. is-true (wellFormed (g .instruction j)) (before j b))
       bad
 
-  pub start-pass : (t : Tables) (pc fp : ℕ) → t .exec 0 .pc ≡ pc → t .exec 0 .fp ≡ fp → start t pc fp then ≡ then
+  pub start-pass : (t : Tables) (pc fp : ℕ) → t .exec 0 .pc ≡ pc → t .exec 0 .fp ≡ fp → startsAt t pc fp then ≡ then
   start-pass t pc fp a b = rw (eq-eqb (t .exec 0 .pc) pc a, eq-eqb (t .exec 0 .fp) fp b)
 
-  pub start-fail : (t : Tables) (pc fp : ℕ) → (t .exec 0 .pc ≡ pc → t .exec 0 .fp ≡ fp → ⊥) → start t pc fp then ≡ Start
+  pub start-fail : (t : Tables) (pc fp : ℕ) → (t .exec 0 .pc ≡ pc → t .exec 0 .fp ≡ fp → ⊥) → startsAt t pc fp then ≡ Start
   start-fail t pc fp bad = go (eqb (t .exec 0 .pc) pc) refl
     where
-      go : (b : Bool) → eqb (t .exec 0 .pc) pc ≡ b → start t pc fp then ≡ Start
+      go : (b : Bool) → eqb (t .exec 0 .pc) pc ≡ b → startsAt t pc fp then ≡ Start
       go true e = rw (e, ne-eqb (t .exec 0 .fp) fp (bad (eqb-true (t .exec 0 .pc) pc e)))
       go false e = rw e
 

@@ -8,7 +8,7 @@ use Rattle.rules.specs.Given.{Given, Tables, Rule, zero?}
 use Rattle.rules.specs.Bus.{Tuple, balanced}
 use Rattle.rules.specs.Sizes.{Parts, givenOf, tablesOf}
 use Rattle.judge_spec.specs.First.{first, failing}
-use Rattle.judge_spec.specs.Judged.{refused, words, instructions, start, execution, extension, pullBalanced, bus}
+use Rattle.judge_spec.specs.Judged.{refused, words, instructions, startsAt, execution, extension, pullBalanced, bus}
 
 -- the first of n numbers that fails a test is refused, with the answer that the number gives
 abbrev pub stage : (ℕ → Bool) → ℕ → (ℕ → Answer) → Answer → Answer
@@ -22,24 +22,31 @@ rowStage rules n answer then = stage (λ r. zero? (failing (rules r))) n (λ r. 
 abbrev pub tupleStage : Given → Tables → (ℕ → ℕ) → (ℕ → Tuple) → ℕ → (ℕ → Answer) → Answer → Answer
 tupleStage g t times tuple n answer then = stage (λ r. zero? (times r) || balanced g t (tuple r)) n answer then
 
--- what the bus says once no pushing row is refused
-abbrev pub judgePulls : Parts → Answer
-judgePulls q = stage (pullBalanced (givenOf q) (tablesOf q)) (tablesOf q .extHeight) (Bus 4) Accepted
+-- the judge's answer from a test on; first what the bus says once no pushing row is refused
+module _ (q : Parts) where
+  abbrev g : Given
+  g = givenOf q
 
-abbrev pub judgeBus : Parts → Answer
-judgeBus q = bus (givenOf q) (tablesOf q)
+  abbrev t : Tables
+  t = tablesOf q
 
-abbrev pub judgeExtension : Parts → Answer
-judgeExtension q = extension (givenOf q) (tablesOf q) (judgeBus q)
+  abbrev pub judgePulls : Answer
+  judgePulls = stage (pullBalanced g t) (t .extHeight) (Bus 4) Accepted
 
-abbrev pub judgeExecution : Parts → Answer
-judgeExecution q = execution (givenOf q) (tablesOf q) (judgeExtension q)
+  abbrev pub judgeBus : Answer
+  judgeBus = bus g t
 
-abbrev pub judgeStart : Parts → Answer
-judgeStart q = start (tablesOf q) (q .pc) (q .fp) (judgeExecution q)
+  abbrev pub judgeExtension : Answer
+  judgeExtension = extension g t judgeBus
 
-abbrev pub judgeProgram : Parts → Answer
-judgeProgram q = instructions (givenOf q) (judgeStart q)
+  abbrev pub judgeExecution : Answer
+  judgeExecution = execution g t judgeExtension
 
-abbrev pub judgeWords : Parts → Answer
-judgeWords q = words 1 (q .program) (words 2 (q .memory) (words 3 (q .exec) (words 4 (q .ext) (judgeProgram q))))
+  abbrev pub judgeStart : Answer
+  judgeStart = startsAt t (q .pc) (q .fp) judgeExecution
+
+  abbrev pub judgeProgram : Answer
+  judgeProgram = instructions g judgeStart
+
+  abbrev pub judgeWords : Answer
+  judgeWords = words 1 (q .program) (words 2 (q .memory) (words 3 (q .exec) (words 4 (q .ext) judgeProgram)))

@@ -11,7 +11,7 @@ use Rattle.answer.specs.declared.Answer.the-variants.{Accepted, Size, Word, Ins
 use Rattle.rules.specs.Given.{Given, Tables, Rule, next, zero?}
 use Rattle.rules.specs.Execution.{execRules}
 use Rattle.rules.specs.Extension.{extRules}
-use Rattle.rules.specs.Bus.{pushed, pushes, pulled, pulls, instructionOf, balanced}
+use Rattle.rules.specs.Bus.{Tuple, pushed, pushes, pulled, pulls, instructionOf, balanced}
 use Rattle.rules.specs.Sizes.{Parts, programFits, memoryFits, execFits, extFits, wordOf, givenOf, tablesOf}
 use Rattle.judge_spec.specs.First.{first, failing}
 
@@ -46,8 +46,8 @@ abbrev pub instructions : Given → Answer → Answer
 instructions g then = refused (firstMalformed g) (g .count) (Instruction (firstMalformed g)) then
 
 -- 4 START: row 0 isn't the start
-abbrev pub start : Tables → ℕ → ℕ → Answer → Answer
-start t pc fp then = cond (eqb (t .exec 0 .pc) pc && eqb (t .exec 0 .fp) fp) then Start
+abbrev pub startsAt : Tables → ℕ → ℕ → Answer → Answer
+startsAt t pc fp then = cond (eqb (t .exec 0 .pc) pc && eqb (t .exec 0 .fp) fp) then Start
 
 -- 5 EXEC and 6 EXTENSION: the first row with a rule that fails, and of its rules the first that does
 abbrev pub execRulesAt : Given → Tables → ℕ → List Rule
@@ -75,9 +75,11 @@ abbrev pub extension : Given → Tables → Answer → Answer
 extension g t then = refused (firstExt g t) (t .extHeight) (Extension (firstExt g t) (extFailing g t (firstExt g t))) then
 
 -- 7 BUS: the first pushing row whose tuple is unequal; else the first pulling row whose tuple is
+abbrev pub pushedAt : Given → Tables → ℕ → Tuple
+pushedAt g t r = pushed (instructionOf g t r) (t .exec r)
+
 abbrev pub pushBalanced : Given → Tables → ℕ → Bool
-pushBalanced g t r =
-    zero? (pushes (instructionOf g t r)) || balanced g t (pushed (instructionOf g t r) (t .exec r))
+pushBalanced g t r = zero? (pushes (instructionOf g t r)) || balanced g t (pushedAt g t r)
 
 abbrev pub pullBalanced : Given → Tables → ℕ → Bool
 pullBalanced g t r = zero? (pulls (t .ext r)) || balanced g t (pulled (t .ext r))
@@ -99,7 +101,7 @@ judgeOf q =
     (words 3 (q .exec)
     (words 4 (q .ext)
     (instructions (givenOf q)
-    (start (tablesOf q) (q .pc) (q .fp)
+    (startsAt (tablesOf q) (q .pc) (q .fp)
     (execution (givenOf q) (tablesOf q)
     (extension (givenOf q) (tablesOf q)
     (bus (givenOf q) (tablesOf q))))))))))

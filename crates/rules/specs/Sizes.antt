@@ -18,14 +18,14 @@ pub record Parts : Type 0 where
   pub pc : ℕ
   pub fp : ℕ
 
--- n is x, doubled at most k times
-abbrev pub power : ℕ → ℕ → ℕ → Bool
-power n x zero = eqb n x
-power n x (suc k) = eqb n x || power n (2 * x) k
+-- n is 2^k for some k from low to high
+abbrev pub isPower : ℕ → ℕ → ℕ → Bool
+isPower n low zero = leb low 0 && eqb n 1
+isPower n low (suc high) = leb low (suc high) && (eqb n (2 ^ suc high) || isPower n low high)
 
--- units of so many bytes, their number a power of two: 2^8, doubled at most so many times
+-- so many bytes to a unit, and 2^k units for some k from 8 on
 abbrev pub powerOf : ℕ → ℕ → ℕ → Bool
-powerOf bytes unit more = eqb (bytes % unit) 0 && power (bytes / unit) 256 more
+powerOf bytes unit high = eqb (bytes % unit) 0 && isPower (bytes / unit) 8 high
 
 -- part 1: 1 to 2^20 instructions of 48 bytes
 abbrev pub programFits : ℕ → Bool
@@ -33,15 +33,15 @@ programFits bytes = eqb (bytes % 48) 0 && leb 1 (bytes / 48) && leb (bytes / 48)
 
 -- part 2: 2^m words, m from 8 to 29
 abbrev pub memoryFits : ℕ → Bool
-memoryFits bytes = powerOf bytes 4 21
+memoryFits bytes = powerOf bytes 4 29
 
--- part 3: H rows of 32 bytes, H from 2^8 to 2^25
+-- part 3: H rows of 32 bytes, H a power of two, 2^8 to 2^25
 abbrev pub execFits : ℕ → Bool
-execFits bytes = powerOf bytes 32 17
+execFits bytes = powerOf bytes 32 25
 
--- part 4: K rows of 120 bytes, K from 2^8 to 2^20
+-- part 4: K rows of 120 bytes, K a power of two, 2^8 to 2^20
 abbrev pub extFits : ℕ → Bool
-extFits bytes = powerOf bytes 120 12
+extFits bytes = powerOf bytes 120 20
 
 -- the words of a part, numbered
 abbrev pub wordOf : List ℕ → ℕ → ℕ

@@ -10,7 +10,7 @@ use borrow.Author.Tests.{leb-true, ltb-false, eqb-true}
 use Rattle.answer.specs.Verdicts.{numbersOf}
 use Rattle.answer.specs.declared.Answer.{Answer}
 use Rattle.answer.specs.declared.Answer.the-variants.{Accepted, Open}
-use Rattle.form.proofs.Cases.{each}
+use Rattle.word.proofs.Tests.{each}
 use Rattle.machine.specs.Machine.{Machine, State}
 use Rattle.machine.specs.Step.{Outcome, goes, stuck, step}
 use Rattle.machine.specs.Run.{StayingRun, after, proceed}

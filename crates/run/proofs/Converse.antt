@@ -14,17 +14,17 @@ use Rattle.run_tables.proofs.Runs.{own-writable}
 use Rattle.run_tables.proofs.Satisfied.{satisfies}
 use Rattle.rules.specs.Sizes.{given}
 use Rattle.run.specs.Runs.{Input, Permitted, LegalRun, Spare, withTables, startOf, pairOf}
-use Rattle.run.proofs.Lengths.{whole}
+use Rattle.judge_spec.proofs.Lengths.{whole}
 use Rattle.run.proofs.Words.{fit-of}
 
 module _ (i : Input) (permitted : Permitted i) (height extHeight : ℕ) (state : ℕ → State) (legal : LegalRun i height state)
     (spare : Spare i height extHeight state) where
   cells : 256 ≤ given (i .program) (i .memory) .size
-  cells = whole (length (i .memory)) 4 21 (permitted .memory-size) .number .least
+  cells = whole (length (i .memory)) 4 29 (permitted .memory-size) .number .least
 
   rows : 1 ≤ height
   rows =
-      let h = whole (32 * height) 32 17 (legal .permitted) .number .least in
+      let h = whole (32 * height) 32 25 (legal .permitted) .number .least in
       omega arith
 
   writable : Writable (given (i .program) (i .memory)) (startOf i) height extHeight state

@@ -1,17 +1,17 @@
 -- Demand 3 of the tabler's answer: it accepts exactly where program, memory and start are permitted and there is a legal run of that height that
 -- stays and leaves a spare row. So where it says STUCK, ROOM or OPEN there is no such run.
 -- Assumes nothing.
-use mathlib.Core.Path.{_≡_, refl}
-use mathlib.Core.Bool.{Bool, true, false, _&&_}
+use mathlib.Core.Path.{_≡_}
+use mathlib.Core.Bool.{false, _&&_}
 use mathlib.Core.List.{List, [], _∷_}
 use Prim.Native.Nat.{ℕ, _-_, _*_, _/_}
 use native.Mathlib.Omega.{arith}
-use lib.Dec.{T, ltb}
+use lib.Dec.{ltb}
 use lib.ListN.{length}
 use borrow.Author.Tests.{ltb-true, ltb-false, lt-ltb, le-ltb}
 use Rattle.word.specs.Word.{p}
 use Rattle.form.specs.Form.{wellFormed}
-use Rattle.form.proofs.Cases.{each}
+use Rattle.word.proofs.Tests.{is-true, from-true, each}
 use Rattle.answer.specs.declared.Answer.{Answer}
 use Rattle.answer.specs.declared.Answer.the-variants.{Accepted, Size, Start}
 use Rattle.machine.specs.Machine.{State}
@@ -21,18 +21,11 @@ use Rattle.judge_spec.specs.First.{first}
 use Rattle.judge_spec.proofs.FirstLaws.{first-none, first-past}
 use Rattle.tables.specs.Rows.{stateAt}
 use Rattle.run.specs.Runs.{Input, Permitted, LegalRun, Spare, machine, startOf}
-use Rattle.run.proofs.Lengths.{whole}
+use Rattle.judge_spec.proofs.Lengths.{whole}
 use Rattle.judge_spec.specs.Judged.{firstWord, firstMalformed}
 use Rattle.tabler_spec.specs.Tabled.{tableOf, ending}
 use Rattle.run.proofs.Accepts.{ending-accepts}
 use Rattle.run.proofs.Accepted.{passed, skipped, accepted-run, accepted-spare}
-
-is-true : (b : Bool) → T b → b ≡ true
-is-true true t = refl
-is-true false t = absurd t
-
-holds : (b : Bool) → b ≡ true → T b
-holds b e = rw e tt
 
 all-words : (bytes : List ℕ) → ltb (firstWord bytes) (length bytes / 4) ≡ false → Words bytes
 all-words bytes e k h =
@@ -51,7 +44,7 @@ pub accepts : (i : Input) → Permitted i → (height extHeight : ℕ) (state : 
     → answerFor i height extHeight ≡ Accepted
 unfolding tableOf
 accepts i permitted height extHeight state legal spare =
-    let rows = whole (32 * height) 32 17 (legal .permitted) .number .least in
+    let rows = whole (32 * height) 32 25 (legal .permitted) .number .least in
     let heights : 32 * height / 32 ≡ height = omega arith in
     let extHeights : 120 * extHeight / 120 ≡ extHeight = omega arith in
     let g = given (i .program) (i .memory) in
@@ -90,23 +83,23 @@ accepted-only i height extHeight e =
     let k = skipped (ltb (firstMalformed g) (length (i .program) / 48)) _ _ (omega arith) (w2 .1) in
     let b = passed (ltb (i .pc) p && ltb (i .fp) p) _ Start (omega arith) (k .1) in
     let starts = each (ltb (i .pc) p) (ltb (i .fp) p ∷ []) (b .0) in
-    let rows = whole (32 * height) 32 17 (holds _ (s3 .0)) .number .least in
+    let rows = whole (32 * height) 32 25 (from-true _ (s3 .0)) .number .least in
     let heights : 32 * height / 32 ≡ height = omega arith in
     let extHeights : 120 * extHeight / 120 ≡ extHeight = omega arith in
     let ended : ending (machine i) (startOf i) height extHeight ≡ Accepted = rw (heights, extHeights) at (b .1) in
     record {
       permitted =
           record {
-            program-size = holds _ (s1 .0);
-            memory-size = holds _ (s2 .0);
+            program-size = from-true _ (s1 .0);
+            memory-size = from-true _ (s2 .0);
             program-words = all-words (i .program) (w1 .0);
             memory-words = all-words (i .memory) (w2 .0);
-            instructions = λ j h. holds _ (first-past (λ n. wellFormed (g .instruction n)) (g .count) (ltb-false _ _ (k .0)) j h);
+            instructions = λ j h. from-true _ (first-past (λ n. wellFormed (g .instruction n)) (g .count) (ltb-false _ _ (k .0)) j h);
             pc-word = ltb-true (i .pc) p (starts .0);
             fp-word = ltb-true (i .fp) p (starts .1);
           };
-      legal = record { permitted = holds _ (s3 .0); run = accepted-run (machine i) (startOf i) height extHeight (omega arith) ended };
-      spare = record { permitted = holds _ (s4 .0); room = accepted-spare (machine i) (startOf i) height extHeight (omega arith) ended };
+      legal = record { permitted = from-true _ (s3 .0); run = accepted-run (machine i) (startOf i) height extHeight (omega arith) ended };
+      spare = record { permitted = from-true _ (s4 .0); room = accepted-spare (machine i) (startOf i) height extHeight (omega arith) ended };
     }
 
 -- so where it refuses a permitted input of permitted heights, with STUCK, ROOM or OPEN, there is no such run

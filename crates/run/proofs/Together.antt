@@ -12,7 +12,7 @@ use Rattle.rules.specs.Satisfies.{Satisfies}
 use Rattle.judge_spec.specs.Judged.{judgeOf}
 use Rattle.judge_spec.proofs.Exactly.{accepted-satisfies}
 use Rattle.run.specs.Runs.{Input, Permitted, LegalRun, Spare, withTables, pairOf}
-use Rattle.run.proofs.Lengths.{whole}
+use Rattle.judge_spec.proofs.Lengths.{whole}
 use Rattle.run.proofs.Words.{exec-words, some-rows}
 use Rattle.run.proofs.Sound.{rowState, lastRow, satisfied-run}
 use Rattle.run.proofs.Agree.{agree}
@@ -39,7 +39,7 @@ module _ (i : Input) (exec ext : List ℕ) (accepted : judgeOf (withTables i exe
   -- an accepted pair of height H is a legal run of H steps that stays
   pub accepted-run : LegalRun i (length exec / 32) (rowState (withTables i exec ext))
   accepted-run =
-      let w = whole (length exec) 32 17 (s .exec-size) in
+      let w = whole (length exec) 32 25 (s .exec-size) in
       let same : 32 * (length exec / 32) ≡ length exec = omega (arith, w .whole) in
       record { permitted = rw same (s .exec-size); run = satisfied-run (withTables i exec ext) s }
 

@@ -18,7 +18,7 @@ use Rattle.rules.specs.Satisfies.{Words, Satisfies}
 use Rattle.run_steps.specs.Setting.{OperandWords, ExecWords, Fit}
 use Rattle.run_groups.proofs.Meaning.{RowWords}
 use Rattle.run_groups.proofs.Lengths.{ExtTable}
-use Rattle.run.proofs.Lengths.{whole, few}
+use Rattle.judge_spec.proofs.Lengths.{whole, few}
 
 module _ (bytes : List ℕ) (words : Words bytes) where
   -- the word at every fourth byte
@@ -82,7 +82,7 @@ pub fit-of : (q : Parts) → T (programFits (length (q .program))) → T (memory
     → ((i : ℕ) → i < givenOf q .count → T (wellFormed (givenOf q .instruction i)))
     → Fit (givenOf q)
 fit-of q program memory program-words memory-words instructions =
-    let cells = whole (length (q .memory)) 4 21 memory in
+    let cells = whole (length (q .memory)) 4 29 memory in
     record {
       few = few (length (q .program)) program;
       small = cells .number .most;
@@ -94,7 +94,7 @@ fit-of q program memory program-words memory-words instructions =
 
 module _ (q : Parts) (s : Satisfies q) where
   pub some-rows : 1 ≤ tablesOf q .height
-  some-rows = omega (arith, whole (length (q .exec)) 32 17 (s .exec-size) .number .least)
+  some-rows = omega (arith, whole (length (q .exec)) 32 25 (s .exec-size) .number .least)
 
   pub fit : Fit (givenOf q)
   fit = fit-of q (s .program-size) (s .memory-size) (s .program-words) (s .memory-words) (s .instructions)
@@ -102,7 +102,7 @@ module _ (q : Parts) (s : Satisfies q) where
   pub ext-table : ExtTable (givenOf q) (tablesOf q .extHeight) (tablesOf q .ext)
   ext-table =
       record {
-        few-rows = whole (length (q .ext)) 120 12 (s .ext-size) .number .most;
+        few-rows = whole (length (q .ext)) 120 20 (s .ext-size) .number .most;
         small-memory = fit .small;
         words = row-words (q .ext) (s .ext-words);
         rules = s .constraints .extension;

@@ -8,7 +8,7 @@ use Prim.Native.Nat.{ℕ, suc, _+_, _-_, _*_, _/_, _≤_, _<_}
 use native.Mathlib.Nat.{sub-self}
 use native.Mathlib.Omega.{arith}
 use lib.Dec.{leb}
-use Rattle.form.proofs.Cases.{each}
+use Rattle.word.proofs.Tests.{each}
 use Rattle.machine.specs.Extension.{elementAt, leftAt, leftSpan, nothing}
 use Rattle.tables.specs.Groups.{leftIndex}
 use Rattle.tabler_operands.specs.Elements.{leftOf, joinedAt, resultFrom, GroupExists, ElementExists}

@@ -17,7 +17,10 @@ returns : tie.Need-returns Inv-loop μ-loop
 returns c = λ h. absurd (omega arith)
 
 returns-2 : tie.Need-returns-2 Inv-loop μ-loop
-returns-2 c = λ _. ap (waiting _ _ _) (sym (c .before .before .before .number .ensures)) ∙ c .before .waits .ensures (c .if2 .taken)
+returns-2 c =
+    let loop = c .before .before .before .before .before .before .before in
+    let start = loop .before .before .before .before .before in
+    λ _. ap (waiting _ _ _) (sym (c .before .before .before .number .ensures)) ∙ c .before .waits .ensures (c .if2 .taken) _ (start .pre) (loop .loop .inv .2)
 
 returns-3 : tie.Need-returns-3 Inv-loop μ-loop
 returns-3 c = λ h. absurd (omega arith)

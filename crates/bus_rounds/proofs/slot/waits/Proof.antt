@@ -22,9 +22,9 @@ returns-3 c =
     let start = c .before .before .before .before .before in
     let row = start .args .x - start .args .low - 1 in
     let above : start .args .x ≡ start .args .low + row + 1 = omega arith in
-    let found = waits-as (start .args .ext .now) (tupleOf (start .args .t)) row (start .pre) (omega arith) in
-    λ e.
-    ap (waiting _ _ _) above ∙ found ∙ ap (λ ρ. sameTuple ρ (tupleOf (start .args .t))) (sym (c .before .tuple-at .ensures (omega arith))) ∙ sym (c .same .ensures) ∙ e
+    λ e span room tagged.
+    let found = waits-as (start .args .ext .now) (tupleOf (start .args .t)) row tagged (omega (arith, room .rows)) in
+    ap (waiting _ _ _) above ∙ found ∙ ap (λ ρ. sameTuple ρ (tupleOf (start .args .t))) (sym (c .before .tuple-at .ensures)) ∙ sym (c .same .ensures) ∙ e
 
 pub waits-spec : {M : Type 1} → statement M
 waits-spec =
@@ -32,11 +32,11 @@ waits-spec =
     (tie.spec
     returns
     (λ c. search needs)
+    (λ c. search needs)
+    (λ c. search needs)
+    (λ c. search needs)
+    (λ c. search needs)
     returns-2
-    (λ c. search needs)
-    (λ c. search needs)
-    (λ c. search needs)
-    (λ c. search needs)
     (λ c κs. search needs)
     (λ c κs. search needs)
     returns-3)

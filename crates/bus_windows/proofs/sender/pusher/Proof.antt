@@ -1,16 +1,15 @@
--- The row's tuple is read where the instruction pushes.
+-- The row's tuple is read where it pushes.
 use borrow.Author.Needs.{needs}
-use mathlib.Core.Path.{refl, sym, _∙_}
-use Rattle.rules.specs.Bus.{pushed}
-use Rattle.bus_windows.proofs.Tuples.{no-push, one-push}
+use mathlib.Core.Path.{refl, sym}
+use Rattle.bus_tuples.proofs.Pushing.{no-push, one-push}
 use Rattle.bus_windows.proofs.sender.pusher.Statement.{statement}
 use Rattle.bus_windows.proofs.sender.pusher.Tie as tie
 
 returns : tie.Need-returns
 returns c =
-    let pushing = c .before .pushing in
+    let pushes = c .before .row-pushes in
     record {
-      plus-is = sym (no-push (pushing .result) (pushing .ensures) (c .if1 .taken));
+      plus-is = sym (no-push (pushes .result) (pushes .ensures) (c .if1 .taken));
       minus-is = refl;
       once = search needs;
       thrice = search needs;
@@ -19,26 +18,14 @@ returns c =
 
 returns-2 : tie.Need-returns-2
 returns-2 c =
-    let pushing = c .before .before .before .before .pushing in
-    let if1 = c .before .before .before .if1 in
-    let instruction-of = c .before .before .instruction-of in
-    let exec-row = c .before .exec-row in
+    let pushes = c .before .before .row-pushes in
     record {
-      plus-is = sym (one-push (pushing .result) (pushing .ensures) (if1 .left));
+      plus-is = sym (one-push (pushes .result) (pushes .ensures) (c .before .if1 .left));
       minus-is = refl;
       once = search needs;
       thrice = search needs;
-      tuple-is = λ _. c .pushed-tuple .ensures ∙ λ j. pushed (instruction-of .ensures j) (exec-row .ensures j);
+      tuple-is = λ _. c .row-tuple .ensures;
     }
 
 pub pusher-spec : {M : Type 1} → statement M
-pusher-spec =
-    tie.close
-    (tie.spec
-    (λ c κs. search needs)
-    returns
-    (λ c κs. search needs)
-    (λ c. search needs)
-    (λ c κs. search needs)
-    (λ c κs. search needs)
-    returns-2)
+pusher-spec = tie.close (tie.spec (λ c κs. search needs) returns (λ c κs. search needs) returns-2)

@@ -1,13 +1,13 @@
 -- Each sender passed is equal; the first of them was counted, so that a look gets past it.
 use borrow.Author.Needs.{needs}
-use mathlib.Core.Path.{_≡_, refl, subst}
+use mathlib.Core.Path.{_≡_, refl, sym, _∙_, subst}
 use mathlib.Core.Bool.{true, false, true≢false, false≢true}
 use mathlib.Core.List.{[]}
 use Prim.Native.Nat.{_-_, _≤_}
 use native.Mathlib.Omega.{arith}
 use Rattle.rules.specs.Sizes.{given, tables}
 use Rattle.judge_spec.specs.First.{first}
-use Rattle.inputs.proofs.Walks.{Walk, begins-at, goes-past, finds}
+use Rattle.judge_spec.proofs.FirstLaws.{stops, goes-on}
 use Rattle.bus_windows.specs.Senders.{senders, equalAt}
 use Rattle.bus_windows.specs.Window.{Holds}
 use Rattle.bus_windows.proofs.window.look.Statement.{statement}
@@ -17,13 +17,13 @@ abbrev Inv-loop : tie.InvT-loop
 Inv-loop program exec ext uppers lowers net from n j₀ j =
     let g = given program [] in
     let t = tables exec ext in
-    (n ≡ senders t) × (from ≤ j) × Walk (equalAt g t) (senders t) (first (equalAt g t) from (senders t - from)) j
+    (n ≡ senders t) × (from ≤ j) × (j ≤ n) × (first (equalAt g t) from (senders t - from) ≡ first (equalAt g t) j (senders t - j))
 
 abbrev μ-loop : tie.MeasureT-loop
 μ-loop program exec ext uppers lowers net from n j₀ j = n - j
 
 loop-holds : tie.Need-loop-holds Inv-loop μ-loop
-loop-holds c = (refl, omega arith, begins-at _ _ _ (omega arith))
+loop-holds c = (refl, omega arith, omega arith, refl)
 
 found-requires : tie.Need-found-requires Inv-loop μ-loop
 found-requires c κs =
@@ -41,8 +41,8 @@ returns c =
     record {
       refuses = λ e. absurd (false≢true e);
       goes = λ _. omega arith;
-      within = loop .inv .2 .within;
-      left = λ _. loop .inv .2 .left;
+      within = omega arith;
+      left = λ _. loop .inv .3;
     }
 
 returns-2 : tie.Need-returns-2 Inv-loop μ-loop
@@ -50,9 +50,9 @@ returns-2 c =
     let loop = c .before .before .before .before .loop in
     let differs = c .before .before .found .ensures .differs (c .before .if1 .left) (c .if2 .taken) in
     record {
-      refuses = λ _. finds (loop .inv .2) (omega arith) differs;
+      refuses = λ _. sym (loop .inv .3 ∙ stops _ _ _ (omega arith) differs);
       goes = λ e. absurd (true≢false e);
-      within = loop .inv .2 .within;
+      within = omega arith;
       left = λ e. absurd (true≢false e);
     }
 
@@ -60,7 +60,7 @@ loop-again : tie.Need-loop-again Inv-loop μ-loop
 loop-again c =
     let loop = c .before .before .before .before .loop in
     let agrees = c .before .before .found .ensures .agrees (c .before .if1 .left) (c .if2 .left) in
-    (refl, omega arith, goes-past (loop .inv .2) (omega arith) agrees)
+    (refl, omega arith, omega arith, loop .inv .3 ∙ goes-on _ _ _ (omega arith) agrees)
 
 returns-3 : tie.Need-returns-3 Inv-loop μ-loop
 returns-3 c =
@@ -69,8 +69,8 @@ returns-3 c =
     record {
       refuses = λ e. absurd (false≢true e);
       goes = λ _. omega (arith, start .pre .1 .1 .0);
-      within = loop .inv .2 .within;
-      left = λ _. loop .inv .2 .left;
+      within = omega arith;
+      left = λ _. loop .inv .3;
     }
 
 pub look-spec : {M : Type 1} → statement M

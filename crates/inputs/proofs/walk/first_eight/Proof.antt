@@ -27,7 +27,7 @@ loop-again : tie.Need-loop-again Inv-loop μ-loop
 loop-again c =
     let words = sym (c .before .eight-words .ensures) ∙ not-false _ (c .if1 .left) in
     let at = c .before .before .before in
-    (refl, goes-past-all (at .loop .inv .1) 8 (omega arith) (eight (at .before .before .args .bytes .now) (at .loop .i) words))
+    (refl, goes-past-all (at .loop .inv .1) 8 (omega arith) (eight (at .before .before .args .bytes .now) (at .loop .i) .0 words))
 
 returns-2 : tie.Need-returns-2 Inv-loop μ-loop
 returns-2 c = let walk = c .before .loop .inv .1 in (walk .within, walk .left)

@@ -1,7 +1,7 @@
 -- Each word passed is below p, and the walk stops at the first that isn't.
 use borrow.Author.Needs.{needs}
-use borrow.Author.Tests.{lt-ltb, le-ltb}
-use mathlib.Core.Path.{_≡_, refl}
+use borrow.Author.Tests.{not-true, not-false}
+use mathlib.Core.Path.{_≡_, refl, sym, _∙_}
 use Prim.Native.Nat.{_-_, _/_}
 use native.Mathlib.Omega.{arith}
 use lib.ListN.{length}
@@ -21,13 +21,11 @@ loop-holds c = (refl, record { within = c .first-eight .ensures .0; left = c .fi
 
 returns : tie.Need-returns Inv-loop μ-loop
 returns c =
-    finds (c .before .before .before .loop .inv .1) (omega arith) (le-ltb _ _ (rw (c .before .word-at .ensures) at (c .if1 .taken)))
+    finds (c .before .before .before .loop .inv .1) (omega arith) (sym (c .before .is-word .ensures) ∙ not-true _ (c .if1 .taken))
 
 loop-again : tie.Need-loop-again Inv-loop μ-loop
-loop-again c = (
-  refl,
-  goes-past (c .before .before .before .loop .inv .1) (omega arith) (lt-ltb _ _ (rw (c .before .word-at .ensures) at (c .if1 .left))),
-)
+loop-again c =
+    (refl, goes-past (c .before .before .before .loop .inv .1) (omega arith) (sym (c .before .is-word .ensures) ∙ not-false _ (c .if1 .left)))
 
 returns-2 : tie.Need-returns-2 Inv-loop μ-loop
 returns-2 c = finds-none (c .before .loop .inv .1) (c .loop-test .left)
@@ -40,7 +38,6 @@ first-word-spec =
     μ-loop
     (λ c κs. search needs)
     loop-holds
-    (λ c. search needs)
     (λ c κs. search needs)
     returns
     (λ c. search needs)

@@ -1,13 +1,11 @@
--- Each return is a case of `either`.
+-- Where it was seen that there is none, their number is the answer.
 use borrow.Author.Needs.{needs}
+use mathlib.Core.Path.{sym}
 use Rattle.inputs.proofs.walk.first_word_unless.Statement.{statement}
 use Rattle.inputs.proofs.walk.first_word_unless.Tie as tie
 
 returns : tie.Need-returns
-returns c = rw (c .if1 .taken)
-
-returns-2 : tie.Need-returns-2
-returns-2 c = rw (c .before .if1 .left) (c .first-word .ensures)
+returns c = sym (c .before .before .pre (c .if1 .taken))
 
 pub first-word-unless-spec : {M : Type 1} → statement M
-first-word-unless-spec = tie.close (tie.spec returns (λ c κs. search needs) returns-2)
+first-word-unless-spec = tie.close (tie.spec returns (λ c κs. search needs) (λ c. c .first-word .ensures))

@@ -19,7 +19,7 @@ returns-4 c e =
     let picked2 = third .before .picked2 in
     let picked3 = third .picked3 in
     let words = none-of-three (leb p (picked .result)) (leb p (picked2 .result)) (leb p (picked3 .result)) (else1 .if1 .left) in
-    all-hold (args .count) (args .memory .now) (args .x) (args .y) (args .i)
+    all-hold (args .memory .now) (args .x) (args .y) (args .i)
     (picked .result) (picked2 .result) (picked3 .result) (c .before .jump-taken .result)
     (picked .ensures (leb-false _ _ (words .0)))
     (picked2 .ensures (leb-false _ _ (words .1)))

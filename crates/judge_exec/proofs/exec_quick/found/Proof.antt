@@ -1,28 +1,24 @@
 -- Each lookup is passed.
 use borrow.Author.Needs.{needs}
-use borrow.Author.Tests.{lt-ltb, not-false}
+use borrow.Author.Tests.{not-false}
 use mathlib.Core.Path.{refl, sym, _∙_}
 use Rattle.judge_lookups.proofs.Quick.{pass, never}
 use Rattle.judge_exec.proofs.exec_quick.found.Statement.{statement}
 use Rattle.judge_exec.proofs.exec_quick.found.Tie as tie
 
-returns-4 : tie.Need-returns-4
-returns-4 c e rest =
-    let else3 = c .before .before in
-    let else2 = else3 .before .before .before in
+returns-3 : tie.Need-returns-3
+returns-3 c e rest =
+    let else2 = c .before .before in
     let else1 = else2 .before .before .before in
-    pass 1 (lt-ltb _ _ (else1 .if1 .left))
-    (pass 2 (sym (else2 .before .looks-up .ensures) ∙ not-false _ (else2 .if2 .left))
-    (pass 3 (sym (else3 .before .looks-up2 .ensures) ∙ not-false _ (else3 .if3 .left))
-    (pass 4 (sym (c .looks-up3 .ensures) ∙ e) refl)))
+    pass 2 (sym (else1 .before .looks-up .ensures) ∙ not-false _ (else1 .if1 .left))
+    (pass 3 (sym (else2 .before .looks-up2 .ensures) ∙ not-false _ (else2 .if2 .left))
+    (pass 4 (sym (c .looks-up3 .ensures) ∙ e) refl))
 
 pub found-spec : {M : Type 1} → statement M
 found-spec =
     tie.close
     (tie.spec
     (λ c. search needs)
-    (λ c. never)
-    (λ c. search needs)
     (λ c κs. search needs)
     (λ c. never)
     (λ c. search needs)
@@ -30,4 +26,4 @@ found-spec =
     (λ c. never)
     (λ c. search needs)
     (λ c κs. search needs)
-    returns-4)
+    returns-3)

@@ -1,0 +1,51 @@
+-- Flags that say which value it is leave that value; else each step is the definition's.
+use mathlib.Core.Path.{_∙_}
+use Rattle.bus_tuples.proofs.SelectedLaws.{looked-up, immediate}
+use borrow.Author.Needs.{needs}
+use Rattle.bus_tuples.proofs.operand.selected.Statement.{statement}
+use Rattle.bus_tuples.proofs.operand.selected.Tie as tie
+
+returns : tie.Need-returns
+returns c =
+    let start = c .before .before .before in
+    let if1 = c .before .before .if1 in
+    let if2 = c .before .if2 in
+    rw (if1 .taken, if2 .taken) (c .add .ensures ∙ looked-up (start .args .operand) (start .args .value) (start .args .fp))
+
+returns-2 : tie.Need-returns-2
+returns-2 c =
+    let start = c .before .before .before .before in
+    let if1 = c .before .before .before .if1 in
+    let if3 = c .before .if3 in
+    rw (if1 .taken, if3 .taken) (c .add2 .ensures ∙ immediate (start .args .operand) (start .args .value) (start .args .fp))
+
+returns-3 : tie.Need-returns-3
+returns-3 c =
+    rw (
+      c .add5 .ensures,
+      c .before .mul3 .ensures,
+      c .before .before .add4 .ensures,
+      c .before .before .before .add3 .ensures,
+      c .before .before .before .before .mul2 .ensures,
+      c .before .before .before .before .before .mul .ensures,
+      c .before .before .before .before .before .before .sub2 .ensures,
+      c .before .before .before .before .before .before .before .sub .ensures,
+    )
+
+pub selected-spec : {M : Type 1} → statement M
+selected-spec =
+    tie.close
+    (tie.spec
+    (λ c κs. search needs)
+    returns
+    (λ c κs. search needs)
+    returns-2
+    (λ c κs. search needs)
+    (λ c κs. search needs)
+    (λ c κs. search needs)
+    (λ c κs. search needs)
+    (λ c κs. search needs)
+    (λ c κs. search needs)
+    (λ c κs. search needs)
+    (λ c κs. search needs)
+    returns-3)

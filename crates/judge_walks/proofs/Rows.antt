@@ -1,0 +1,47 @@
+-- A walk over rows of so many words: it is at row r, no row before has a rule that fails, and a test tells whether their words are below p.
+-- Assumes nothing.
+use mathlib.Core.Path.{_≡_, refl, _∙_}
+use mathlib.Core.Bool.{Bool, true, false, _&&_}
+use mathlib.Core.List.{List}
+use Prim.Native.Nat.{ℕ, _+_, _*_, _/_, _≤_, _<_, zero-le}
+use native.Mathlib.Nat.{mul-zero}
+use native.Mathlib.Omega.{arith}
+use lib.ListN.{length}
+use borrow.Author.Tests.{eq-eqb, ne-eqb, lt-ltb, le-ltb}
+use Rattle.rules.specs.Given.{zero?}
+use Rattle.judge_spec.specs.First.{first}
+use Rattle.judge_spec.specs.Judged.{isWord}
+use Rattle.inputs.proofs.Eights.{Tells, none-yet, joined, all-told}
+use Rattle.inputs.proofs.Walks.{Walk, begins, goes-past, finds, finds-none, found-one, found-none}
+use Rattle.judge_walks.specs.Walks.{Tested}
+
+module _ (failing : ℕ → ℕ) (n : ℕ) (bytes : List ℕ) (wide : ℕ) where
+  pub record At (r : ℕ) (words : Bool) : Type 0 where
+    pub rows : Walk (λ s. zero? (failing s)) n (first (λ s. zero? (failing s)) 0 n) r
+    pub told : Tells (isWord bytes) words 0 (wide * r)
+
+  pub at-first : At 0 true
+  at-first = record { rows = begins _ n; told = rw (mul-zero wide) (none-yet (isWord bytes)) }
+
+  module _ {r : ℕ} {words : Bool} (at : At r words) where
+    pub row-passed : (b : Bool) → r < n → failing r ≡ 0 → Tells (isWord bytes) b (wide * r) (wide * r + wide) → At (r + 1) (words && b)
+    row-passed b h e tells =
+        let next : wide * (r + 1) ≡ wide * r + wide = omega arith in
+        record {
+          rows = goes-past (at .rows) h (eq-eqb (failing r) 0 e);
+          told = rw next (joined (isWord bytes) words b 0 (wide * r) (wide * r) (wide * r + wide) zero-le (omega arith) (omega arith) (at .told) tells);
+        }
+
+    pub row-fails : (rule : ℕ) → r < n → rule ≡ failing r → (rule ≡ 0 → ⊥) → Tested failing n bytes r rule false
+    row-fails rule h e bad =
+        let fails = ne-eqb (failing r) 0 (λ z. bad (e ∙ z)) in
+        record { at-is = finds (at .rows) h fails; rule-is = rw (lt-ltb r n h) e; words-is = found-one (at .rows) h fails _ }
+
+    pub rows-end : n ≤ r → wide * n ≡ length bytes / 4 → Tested failing n bytes r 0 words
+    rows-end h whole =
+        let last : n ≡ r = omega (arith, at .rows .within) in
+        record {
+          at-is = finds-none (at .rows) h;
+          rule-is = rw (le-ltb r n h);
+          words-is = all-told (isWord bytes) words (length bytes / 4) (rw (← last, whole) at (at .told)) ∙ found-none (at .rows) h _;
+        }
