@@ -115,9 +115,5 @@ pub(crate) fn exec_computed(memory: &[u8], x: Exec, y: Exec, i: Instruction) -> 
     let b = selected(i.fb, i.fpab, i.b, x.valueB, x.fp);
     let c = selected(i.fc, i.fpc, i.c, x.valueC, x.fp);
     let last = jumps(mul(i.jump, a), x, y, a, b, c);
-    lookups(
-        memory,
-        x,
-        addresses(i, x, operations(i, x, a, b, c, last)),
-    )
+    lookups(memory, x, addresses(i, x, operations(i, x, a, b, c, last)))
 }

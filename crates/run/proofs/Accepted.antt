@@ -1,4 +1,4 @@
--- And only there: a run that the tabler accepts is the machine's run from the start, it stays, and it leaves a spare row.
+-- And only there: a run that the tabler accepts is the machine's from the start, it stays, and it leaves a spare row.
 -- Assumes nothing.
 use mathlib.Core.Path.{_≡_, refl, sym, _∙_, ap}
 use mathlib.Core.Bool.{Bool, true, false, cond}

@@ -2,13 +2,12 @@
 mod elements;
 mod look;
 
-use form::Op;
-
 pub use elements::cells_exist;
 pub use elements::left_index;
 pub use elements::result_holds;
 pub use elements::same;
 pub use elements::with_element;
+use form::Op;
 pub use look::look_all;
 
 // What a step and its row ask of an operand.

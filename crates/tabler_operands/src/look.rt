@@ -8,14 +8,14 @@ use form::Operand;
 use tabler_cells::cell;
 use word::add;
 ghost use mathlib.Core.Path.{_≡_};
-ghost use mathlib.Core.List.{[]};
-ghost use Rattle.machine.specs.Machine.{value};
-ghost use Rattle.tables.specs.Machine.{machineOf};
-ghost use Rattle.tabler_operands.specs.Looked.{at, lookedOf, lookedB, operandsOf};
+ghost use Prim.Native.Nat.{_/_};
+ghost use lib.ListN.{length};
+ghost use Rattle.rules.specs.Sizes.{wordOf};
+ghost use Rattle.tabler_operands.specs.Looked.{lookedOf, lookedB, operandsOf};
 
 // A cell read is legal where the cell exists; an operand that reads none has column 0.
 fn look(memory: &[u8], fp: u32, o: Operand) -> Looked
-    ensures { λ r. ⌜ r ≡ lookedOf (machineOf [] (now (memory .entry))) (at 0 fp) o ⌝ }
+    ensures { λ r. ⌜ r ≡ lookedOf (wordOf (now (memory .entry))) (length (now (memory .entry)) / 4) fp o ⌝ }
 {
     let mode = o.mode;
     match mode {
@@ -46,8 +46,7 @@ fn look(memory: &[u8], fp: u32, o: Operand) -> Looked
 
 // Operand B, where A's value is a: DEREF's column is its target, the cell at a + β.
 fn look_b(memory: &[u8], fp: u32, f: Form, a: u32) -> Looked
-    requires { ⌜ a ≡ value (machineOf [] (now memory)) (at 0 fp) (f .a) ⌝ }
-    ensures { λ r. ⌜ r ≡ lookedB (machineOf [] (now (memory .entry))) (at 0 fp) f ⌝ }
+    ensures { λ r. ⌜ r ≡ lookedB (wordOf (now (memory .entry))) (length (now (memory .entry)) / 4) fp a (f .b) (f .kind) ⌝ }
 {
     let kind = f.kind;
     let b = f.b;
@@ -71,7 +70,7 @@ fn look_b(memory: &[u8], fp: u32, f: Form, a: u32) -> Looked
 
 // All three operands, on an untaken jump too.
 pub fn look_all(memory: &[u8], fp: u32, f: Form) -> Operands
-    ensures { λ r. ⌜ r ≡ operandsOf (machineOf [] (now (memory .entry))) (at 0 fp) f ⌝ }
+    ensures { λ r. ⌜ r ≡ operandsOf (wordOf (now (memory .entry))) (length (now (memory .entry)) / 4) fp f ⌝ }
 {
     let a = f.a;
     let c = f.c;

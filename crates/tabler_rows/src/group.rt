@@ -83,7 +83,7 @@ fn group_row(memory: &[u8], g: Group, j: u32, rest: [u32; 5], res: [u32; 5]) -> 
     }
 }
 
-// A group's rows, from the last back to the first, each through its own bytes, and whether the five cells at C are the result.
+// A group's rows, from the last back to the first, each through its own bytes, and whether its result holds.
 fn put_group(memory: &[u8], g: Group, part: &mut [u8]) -> bool
     requires { ⌜ (length (now part) ≡ 120 * g .n) × GroupExists (length (now memory)) g ⌝ }
     ensures { λ r. ⌜ r ≡ resultHolds (wordOf (now (memory .entry))) g ⌝ }

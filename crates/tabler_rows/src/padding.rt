@@ -1,7 +1,7 @@
 // Padding: the extension rows past the last group.
 use rows::Ext;
 use rows::put_ext;
-use tabler_cells::element_at;
+use tabler_cells::cell;
 ghost use mathlib.Core.Path.{_≡_};
 ghost use Prim.Native.Nat.{_/_, _%_, _≤_};
 ghost use lib.ListN.{length};
@@ -12,10 +12,15 @@ ghost use Rattle.tabler_rows.specs.Placed.{extBytes, withPadding};
 
 // start 1, len 1, all indexes and flags 0; comp and res are cells 0 to 4.
 fn padding_row(memory: &[u8]) -> Ext
-    requires { ⌜ 5 ≤ length (now memory) / 4 ⌝ }
     ensures { λ r. ⌜ r ≡ padding (wordOf (now (memory .entry))) ⌝ }
 {
-    let five = element_at(memory, 0);
+    let five = [
+        cell(memory, 0),
+        cell(memory, 1),
+        cell(memory, 2),
+        cell(memory, 3),
+        cell(memory, 4),
+    ];
     Ext {
         start: 1,
         add: 0,
@@ -35,7 +40,7 @@ fn padding_row(memory: &[u8]) -> Ext
 }
 
 fn put_padding(memory: &[u8], part: &mut [u8])
-    requires { ⌜ (5 ≤ length (now memory) / 4) × (length (now part) % 120 ≡ 0) ⌝ }
+    requires { ⌜ length (now part) % 120 ≡ 0 ⌝ }
     ensures { λ _. ⌜ now (part .exit) ≡ concatenated (λ j. extBytes (padding (wordOf (now (memory .entry))))) (length (now (part .entry)) / 120) ⌝ }
 {
     let row = padding_row(memory);
@@ -50,7 +55,7 @@ fn put_padding(memory: &[u8], part: &mut [u8])
 
 // Padding in every row after those filled.
 pub fn pad(memory: &[u8], filled: usize, ext: &mut [u8])
-    requires { ⌜ (5 ≤ length (now memory) / 4) × (filled ≤ length (now ext) / 120) ⌝ }
+    requires { ⌜ filled ≤ length (now ext) / 120 ⌝ }
     ensures { λ _. ⌜ now (ext .exit) ≡ withPadding (wordOf (now (memory .entry))) filled (now (ext .entry)) ⌝ }
 {
     let from = 120 * filled;

@@ -60,8 +60,8 @@ ending m start height extHeight =
 abbrev pub startFits : ℕ → ℕ → Answer → Answer
 startFits pc fp then = cond (ltb pc p && ltb fp p) then Start
 
--- the tabler's answer: program, memory, start, and the lengths of both tables in bytes. 1 SIZE, 2 WORD in program and memory and 3 INSTRUCTION
--- are tested as the judge tests them
+-- the tabler's answer: program, memory, start, and the lengths of both tables in bytes. 1 SIZE, 2 WORD in program and
+-- memory and 3 INSTRUCTION are tested as the judge tests them
 unfoldable pub tableOf : List ℕ → List ℕ → ℕ → ℕ → ℕ → ℕ → Answer
 tableOf program memory pc fp exec ext =
     sizes (length program) (length memory) exec ext

@@ -1,4 +1,4 @@
--- A step by its operands' legality, and by whether there is room after it.
+-- A step by whether there is room after it.
 -- Assumes nothing.
 use borrow.Author.Tests.{lt-ltb, le-ltb}
 use mathlib.Core.Bool.{Bool, true, false, _&&_, cond}
@@ -9,11 +9,8 @@ use native.Mathlib.Nat.{add-zero}
 use native.Mathlib.Omega.{arith}
 use lib.Dec.{ltb, eqb}
 use lib.ListN.{length}
-use Rattle.form.specs.declared.Form.{Form}
-use Rattle.machine.specs.Machine.{Machine, State, value}
-use Rattle.machine.specs.Step.{Outcome, goes, stuck, asked, forward, performed, performs}
-use Rattle.tabler_operands.specs.Looked.{operandsOf}
-use Rattle.tabler_operands.specs.declared.Operands.{Operands}
+use Rattle.machine.specs.Machine.{State}
+use Rattle.machine.specs.Step.{Outcome, goes, stuck, asked, forward}
 use Rattle.tabler_rows.specs.Placed.{placed}
 use Rattle.tabler_rows.proofs.Lent.{none-placed}
 use Rattle.tabler_step.specs.Taken.{movedOf, takenOf, takenExt, writes}
@@ -24,14 +21,10 @@ use Rattle.tabler_step.specs.declared.Moved.{Moved}
 abbrev Handed : Moved → List ℕ → List ℕ → ℕ → ℕ → List ℕ → Outcome → Type 0
 Handed x ext′ ext filled n bytes o = (x ≡ takenOf o (filled + n) (length ext / 120)) × (ext′ ≡ takenExt o filled n bytes ext)
 
-pub by-legal : (m : Machine) (s : State) (f : Form) {o : Operands} → o ≡ operandsOf m s f
-    → {x : Moved} {ext′ : List ℕ} (ext : List ℕ) (filled n : ℕ) (bytes : List ℕ)
-    → Handed x ext′ ext filled n bytes
-    (asked 2 (o .a .legal)
-    (asked 3 (o .b .legal)
-    (asked 4 (o .c .legal) (performed m s f (f .kind) (value m s (f .a)) (value m s (f .b)) (value m s (f .c))))))
-    → Handed x ext′ ext filled n bytes (performs m s f)
-by-legal m s f looked ext filled n bytes h = rw looked at h
+-- where all operands are legal what is asked of them decides
+pub all-legal : {a b c : Bool} → a ≡ true → b ≡ true → c ≡ true → {x : Moved} {ext′ : List ℕ} (ext : List ℕ) (filled n : ℕ) (bytes : List ℕ) (o : Outcome)
+    → Handed x ext′ ext filled n bytes o → Handed x ext′ ext filled n bytes (asked 2 a (asked 3 b (asked 4 c o)))
+all-legal ha hb hc ext filled n bytes o h = rw (ha, hb, hc) h
 
 -- stuck before a group is written
 pub halts : (rule : ℕ) → eqb rule 8 ≡ false → (ext : List ℕ) (filled n : ℕ) (bytes : List ℕ) → Handed (Stuck rule) ext ext filled n bytes (stuck rule)

@@ -1,5 +1,4 @@
-// One step of the machine by what its operands read: where it goes, that its group has no room, or the first reason why it is stuck.
-use form::Form;
+// One step of the machine by what its operands read: where it goes, that its group has no room, or why it is stuck.
 use form::Kind;
 use tabler_operands::Group;
 use tabler_operands::Operands;
@@ -9,18 +8,15 @@ use tabler_rows::group_holds;
 use word::add;
 use word::mul;
 ghost use mathlib.Core.Bool.{cond};
-ghost use mathlib.Core.List.{[]};
 ghost use mathlib.Core.Path.{_≡_};
-ghost use Prim.Native.Nat.{_+_, _/_, _≤_, _<_, _^_};
+ghost use Prim.Native.Nat.{_+_, _/_, _<_, _^_};
 ghost use lib.ListN.{length};
 ghost use Rattle.rules.specs.Sizes.{wordOf};
-ghost use Rattle.machine.specs.Machine.{value};
-ghost use Rattle.machine.specs.Step.{asked, forward, jumps, performed, performs};
+ghost use Rattle.machine.specs.Step.{asked, forward, jumps};
 ghost use Rattle.tables.specs.Groups.{lengthOf};
-ghost use Rattle.tables.specs.Machine.{machineOf};
 ghost use Rattle.tabler_operands.specs.Looked.{at};
 ghost use Rattle.tabler_rows.specs.Placed.{groupBytes};
-ghost use Rattle.tabler_step.specs.Taken.{movedOf, takenOf, takenExt, extended, formBytes, Ready};
+ghost use Rattle.tabler_step.specs.Taken.{movedOf, takenOf, takenExt, kindBytes, extended, performedBy, stepBy, Ready};
 
 // What a step comes to: where it goes, with the extension rows filled after it.
 pub enum Moved {
@@ -68,28 +64,38 @@ fn full_if(holds: bool) -> Moved
     Moved::Stuck { rule: 8 }
 }
 
-// A group needs room for itself and one row more. Without it its result is asked for all the same: STUCK comes before ROOM.
+// A group needs room for itself and one row more. Without it its result is still asked for: STUCK comes before ROOM.
 fn extend(memory: &[u8], pc: u32, fp: u32, g: Group, filled: usize, ext: &mut [u8]) -> Moved
-    requires { ⌜ (pc + 1 < 2 ^ 32) × (length (now memory) ≤ 2 ^ 31) × (filled < length (now ext) / 120) ⌝ }
+    requires { ⌜ Ready pc (now memory) filled (now ext) ⌝ }
     ensures { λ r. ⌜ r ≡ takenOf (extended (wordOf (now (memory .entry))) (length (now (memory .entry)) / 4) (at pc fp) g) (filled + g .n) (length (now (ext .entry)) / 120) ⌝ }
     ensures { λ _. ⌜ now (ext .exit) ≡ takenExt (extended (wordOf (now (memory .entry))) (length (now (memory .entry)) / 4) (at pc fp) g) filled (g .n) (groupBytes (wordOf (now (memory .entry))) g) (now (ext .entry)) ⌝ }
 {
     if !cells_exist(memory, g) {
         return Moved::Stuck { rule: 7 };
     }
+    let room = ext.len() / 120;
     let after = filled + (g.n as usize);
-    if ext.len() / 120 <= after {
-        return full_if(result_holds(memory, g));
+    if room <= after {
+        let holds = result_holds(memory, g);
+        return full_if(holds);
     }
     let holds = group_holds(memory, g, filled, ext);
     forward_if(8, holds, pc, fp, after)
 }
 
 // What each kind asks of its operands' values.
-fn perform(memory: &[u8], pc: u32, fp: u32, f: Form, o: Operands, filled: usize, ext: &mut [u8]) -> Moved
-    requires { ⌜ Ready (now memory) pc fp f o filled (now ext) ⌝ }
-    ensures { λ r. ⌜ (let m = machineOf [] (now (memory .entry)) in let s = at pc fp in r ≡ takenOf (performed m s f (f .kind) (value m s (f .a)) (value m s (f .b)) (value m s (f .c))) (filled + lengthOf (f .kind)) (length (now (ext .entry)) / 120)) ⌝ }
-    ensures { λ _. ⌜ (let m = machineOf [] (now (memory .entry)) in let s = at pc fp in now (ext .exit) ≡ takenExt (performed m s f (f .kind) (value m s (f .a)) (value m s (f .b)) (value m s (f .c))) filled (lengthOf (f .kind)) (formBytes m s f) (now (ext .entry))) ⌝ }
+fn perform(
+    memory: &[u8],
+    pc: u32,
+    fp: u32,
+    kind: Kind,
+    o: Operands,
+    filled: usize,
+    ext: &mut [u8],
+) -> Moved
+    requires { ⌜ Ready pc (now memory) filled (now ext) ⌝ }
+    ensures { λ r. ⌜ r ≡ takenOf (performedBy (wordOf (now (memory .entry))) (length (now (memory .entry)) / 4) (at pc fp) o kind) (filled + lengthOf kind) (length (now (ext .entry)) / 120) ⌝ }
+    ensures { λ _. ⌜ now (ext .exit) ≡ takenExt (performedBy (wordOf (now (memory .entry))) (length (now (memory .entry)) / 4) (at pc fp) o kind) filled (lengthOf kind) (kindBytes (wordOf (now (memory .entry))) kind o) (now (ext .entry)) ⌝ }
 {
     let a = o.a;
     let b = o.b;
@@ -97,7 +103,6 @@ fn perform(memory: &[u8], pc: u32, fp: u32, f: Form, o: Operands, filled: usize,
     let x = a.value;
     let y = b.value;
     let z = c.value;
-    let kind = f.kind;
     match kind {
         Kind::Add => forward_if(5, add(x, z) == y, pc, fp, filled),
         Kind::Mul => forward_if(5, mul(x, z) == y, pc, fp, filled),
@@ -117,11 +122,19 @@ fn perform(memory: &[u8], pc: u32, fp: u32, f: Form, o: Operands, filled: usize,
     }
 }
 
-// The step of a form whose operands were looked at. All have to be legal before anything is asked of them, on an untaken jump too.
-pub fn take_step(memory: &[u8], pc: u32, fp: u32, f: Form, o: Operands, filled: usize, ext: &mut [u8]) -> Moved
-    requires { ⌜ Ready (now memory) pc fp f o filled (now ext) ⌝ }
-    ensures { λ r. ⌜ r ≡ takenOf (performs (machineOf [] (now (memory .entry))) (at pc fp) f) (filled + lengthOf (f .kind)) (length (now (ext .entry)) / 120) ⌝ }
-    ensures { λ _. ⌜ (let m = machineOf [] (now (memory .entry)) in let s = at pc fp in now (ext .exit) ≡ takenExt (performs m s f) filled (lengthOf (f .kind)) (formBytes m s f) (now (ext .entry))) ⌝ }
+// The step of a kind by its operands. All have to be legal before anything is asked of them, on an untaken jump too.
+pub fn take_step(
+    memory: &[u8],
+    pc: u32,
+    fp: u32,
+    kind: Kind,
+    o: Operands,
+    filled: usize,
+    ext: &mut [u8],
+) -> Moved
+    requires { ⌜ Ready pc (now memory) filled (now ext) ⌝ }
+    ensures { λ r. ⌜ r ≡ takenOf (stepBy (wordOf (now (memory .entry))) (length (now (memory .entry)) / 4) (at pc fp) o kind) (filled + lengthOf kind) (length (now (ext .entry)) / 120) ⌝ }
+    ensures { λ _. ⌜ now (ext .exit) ≡ takenExt (stepBy (wordOf (now (memory .entry))) (length (now (memory .entry)) / 4) (at pc fp) o kind) filled (lengthOf kind) (kindBytes (wordOf (now (memory .entry))) kind o) (now (ext .entry)) ⌝ }
 {
     let a = o.a;
     let b = o.b;
@@ -135,5 +148,5 @@ pub fn take_step(memory: &[u8], pc: u32, fp: u32, f: Form, o: Operands, filled: 
     if !c.legal {
         return Moved::Stuck { rule: 4 };
     }
-    perform(memory, pc, fp, f, o, filled, ext)
+    perform(memory, pc, fp, kind, o, filled, ext)
 }

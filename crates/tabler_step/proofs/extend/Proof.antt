@@ -18,7 +18,7 @@ result-holds-requires : tie.Need-result-holds-requires
 result-holds-requires c κs =
     let t = c .before .before in
     let e = t .before .cells-exist in
-    record { short = t .before .before .before .before .pre .1; exists = sym (e .ensures) ∙ not-false (e .result) (t .if1 .left) }
+    record { short = t .before .before .before .before .pre .short; exists = sym (e .ensures) ∙ not-false (e .result) (t .if1 .left) }
 
 returns-2 : tie.Need-returns-2
 returns-2 c =
@@ -33,7 +33,7 @@ group-holds-requires : tie.Need-group-holds-requires
 group-holds-requires c κs =
     let t = c .before .before .before in
     let e = t .before .cells-exist in
-    (omega (arith, c .before .if2 .left), record { short = t .before .before .before .before .pre .1; exists = sym (e .ensures) ∙ not-false (e .result) (t .if1 .left) })
+    (omega (arith, c .before .if2 .left), record { short = t .before .before .before .before .pre .short; exists = sym (e .ensures) ∙ not-false (e .result) (t .if1 .left) })
 
 returns-3 : tie.Need-returns-3
 returns-3 c =

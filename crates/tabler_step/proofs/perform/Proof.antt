@@ -10,27 +10,27 @@ returns : tie.Need-returns
 returns c =
     let s = c .before .before .before .before .before .before .before .before .before in
     rw (c .before .before .enum-told .given .1)
-    (no-group _ _ _ (s .pre .room) (rw (c .before .add .ensures, s .pre .looked) at (c .forward-if .ensures)) (no-rows _ refl))
+    (no-group _ _ _ (s .pre .room) (rw (c .before .add .ensures) at (c .forward-if .ensures)) (no-rows _ refl))
 
 returns-2 : tie.Need-returns-2
 returns-2 c =
     let s = c .before .before .before .before .before .before .before .before .before in
     rw (c .before .before .enum-told2 .given .1)
-    (no-group _ _ _ (s .pre .room) (rw (c .before .mul .ensures, s .pre .looked) at (c .forward-if2 .ensures)) (no-rows _ refl))
+    (no-group _ _ _ (s .pre .room) (rw (c .before .mul .ensures) at (c .forward-if2 .ensures)) (no-rows _ refl))
 
 returns-3 : tie.Need-returns-3
 returns-3 c =
     let s = c .before .before .before .before .before .before .before .before .before in
     let told = c .before .before .enum-told3 .given .1 in
-    rw told (no-group _ _ _ (s .pre .room) (rw (s .pre .looked, told) at (c .forward-if3 .ensures)) (no-rows _ refl))
+    rw told (no-group _ _ _ (s .pre .room) (c .forward-if3 .ensures) (no-rows _ refl))
 
 returns-4 : tie.Need-returns-4
 returns-4 c =
     let s = c .before .before .before .before .before .before .before .before in
-    rw (c .before .enum-told4 .given .1) (no-group _ _ _ (s .pre .room) (rw (s .pre .looked) at (c .jump .ensures)) (no-rows _ refl))
+    rw (c .before .enum-told4 .given .1) (no-group _ _ _ (s .pre .room) (c .jump .ensures) (no-rows _ refl))
 
 returns-5 : tie.Need-returns-5
-returns-5 c = rw (c .before .before .before .before .before .kind .given .1) (rw (c .before .before .before .before .before .before .before .before .before .before .before .before .pre .looked) at (c .before .before .extend .ensures))
+returns-5 c = rw (c .before .before .before .before .before .kind .given .1) (c .before .before .extend .ensures)
 
 pub perform-spec : {M : Type 1} → statement M
 perform-spec =

@@ -1,12 +1,11 @@
 -- At j the rest is what the elements from j on come to; each turn joins one element more in front.
 use borrow.Author.Needs.{needs}
-use mathlib.Core.Path.{_≡_, ap}
+use mathlib.Core.Path.{_≡_}
 use Prim.Native.Nat.{_-_, _≤_}
 use native.Mathlib.Nat.{sub-zero}
 use native.Mathlib.Omega.{arith}
 use Rattle.rules.specs.Sizes.{wordOf}
 use Rattle.tabler_operands.specs.Elements.{resultFrom}
-use Rattle.tabler_operands.specs.declared.Joined.{Joined}
 use Rattle.tabler_operands.proofs.Results.{none-left, one-more, result-exists, element-exists}
 use Rattle.tabler_operands.proofs.elements.result_holds.Statement.{statement}
 use Rattle.tabler_operands.proofs.elements.result_holds.Tie as tie

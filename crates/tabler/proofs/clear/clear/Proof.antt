@@ -6,8 +6,8 @@ use mathlib.Core.Path.{_≡_, refl, _∙_}
 use Prim.Native.Nat.{_-_, _≤_}
 use native.Mathlib.Omega.{arith}
 use lib.ListN.{length, drop, replicate, length-set, drop-of-length-le}
-use Rattle.tabler.proofs.write.clear.Statement.{statement}
-use Rattle.tabler.proofs.write.clear.Tie as tie
+use Rattle.tabler.proofs.clear.clear.Statement.{statement}
+use Rattle.tabler.proofs.clear.clear.Tie as tie
 
 abbrev Inv-loop : tie.InvT-loop
 Inv-loop s₀ i₀ s i = (i ≤ length s₀) × (length s ≡ length s₀) × (s ≡ replicate i 0 ++ drop i s₀)

@@ -1,7 +1,7 @@
 -- In each arm it is known what was decoded.
 use borrow.Author.Needs.{needs}
-use Rattle.tabler.proofs.step.form_of.Statement.{statement}
-use Rattle.tabler.proofs.step.form_of.Tie as tie
+use Rattle.tabler.proofs.fetch.form_of.Statement.{statement}
+use Rattle.tabler.proofs.fetch.form_of.Tie as tie
 
 returns : tie.Need-returns
 returns c = rw (c .enum-told .given .1)
