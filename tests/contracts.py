@@ -13,7 +13,7 @@ ENTRIES = set("""
 draw::Generator::new draw::Generator::draw draw::wrapping_product
 label::read_label label::write_label maker::make tabler::table judge::judge
 uisnabar::uisnabar_judge uisnabar::uisnabar_label replay::replay table::table_label
-test_probe::probe_table test_probe::probe_make test_probe::probe_label
+test_probe::probe_table test_probe::probe_make test_probe::probe_write
 """.split())
 FUNCTION = re.compile(r"^(\s*)pub (?:extern \"C\" )?fn (\w+)")
 EXPORT = re.compile(r"^pub use [\w:]*?(\w+);$", re.M)
@@ -51,7 +51,7 @@ def structs():
 def determines(promise, returned, fields):
     """Whether the promise has an equation for an answer of this type."""
     for binder, fact in re.findall(r"λ (\w+)\.(.*?)(?=λ \w+\. (?:do )?⌜|\Z)", promise, re.S):
-        if re.search(rf"(?:^|[\s(⌜])(?:\w+ )?{binder} ≡", fact):
+        if re.search(rf"(?:^|[\s(⌜])(?:\w+ {binder}|cond {binder} 1 0|{binder}) ≡", fact):
             return True
         if fields.get(returned) and fields[returned] <= set(re.findall(rf"\b{binder} \.«?(\w+)»? ≡", fact)):
             return True

@@ -13,3 +13,7 @@ equation e r s p q = p ∙ sym q
 -- an answer and a lent buffer at return, each given by a definition
 pub equations {ℓ} : {A B : Type ℓ} (e : A) (f : B) → Determined (λ (r : A × B). (r .0 ≡ e) × (r .1 ≡ f))
 equations e f r s p q = λ i. ((p .0 ∙ sym (q .0)) i, (p .1 ∙ sym (q .1)) i)
+
+-- an answer and two lent buffers at return
+pub equations-of-three {ℓ} : {A B C : Type ℓ} (e : A) (f : B) (g : C) → Determined (λ (r : A × B × C). (r .0 ≡ e) × (r .1 ≡ f) × (r .2 ≡ g))
+equations-of-three e f g r s p q = λ i. ((p .0 ∙ sym (q .0)) i, (p .1 ∙ sym (q .1)) i, (p .2 ∙ sym (q .2)) i)

@@ -1,6 +1,8 @@
 -- Document 01, "Verdicts": an answer is four numbers, verdict, part, place and rule; unnamed ones are 0.
 -- This is the one place that gives the paper's numbers.
 use Prim.Native.Nat.{ℕ}
+use mathlib.Core.Bool.{Bool}
+use lib.Dec.{eqb}
 use Rattle.answer.specs.declared.Numbers.{Numbers}
 use Rattle.answer.specs.declared.Answer.{Answer}
 use Rattle.answer.specs.declared.Answer.the-variants.{
@@ -38,3 +40,7 @@ numbersOf (Room row) = four 10 0 row 0
 numbersOf (Open row) = four 11 0 row 0
 numbersOf Itself = four 12 0 0 0
 numbersOf Buffer = four 13 0 0 0
+
+-- verdict 0
+abbrev pub accepted : Answer → Bool
+accepted a = eqb (numbersOf a .verdict) 0

@@ -1,6 +1,6 @@
 // The answers of document 01, "Verdicts": an enum, and its four numbers.
 ghost use mathlib.Core.Path.{_≡_};
-ghost use Rattle.answer.specs.Verdicts.{numbersOf};
+ghost use Rattle.answer.specs.Verdicts.{numbersOf, accepted};
 
 // A case for each verdict, in the paper's order, with what the paper names in it.
 pub enum Answer {
@@ -59,4 +59,11 @@ pub fn four_numbers(a: Answer) -> Numbers
         Answer::Itself => four(12, 0, 0, 0),
         Answer::Buffer => four(13, 0, 0, 0),
     }
+}
+
+pub fn accepted(a: Answer) -> bool
+    ensures { λ r. ⌜ r ≡ accepted a ⌝ }
+{
+    let numbers = four_numbers(a);
+    numbers.verdict == 0
 }

@@ -40,7 +40,7 @@ waits-as ext {span} {low} σ k tagged few =
     rw (ne-eqb (low + k + 1) 0 (λ e. omega arith), ne-eqb (low + k + 1) 16777215 (λ e. omega (arith, tagged .fits)), row)
 
 -- a slot is written
-module _ (lo hi : List ℕ) (size : Sized lo hi) (q a b : ℕ) (inside : q < 17203) where
+module _ (lo hi : List ℕ) (size : Sized lo hi) (q a b : ℕ) (inside : q < 6553) where
   stored : slotAt (set lo q a) (set hi q b) q ≡ a + 65536 * b
   stored = rw (getD-set-same lo q a 0 (omega (arith, size .low)), getD-set-same hi q b 0 (omega (arith, size .high)))
 
@@ -70,7 +70,7 @@ module _ (lo hi : List ℕ) (size : Sized lo hi) (q a b : ℕ) (inside : q < 172
             let held : ℕ → ℕ = λ x. cond (waiting ext span σ x) 1 0 in
             let was = ap held empty ∙ dead ext span σ 0 refl in
             let is = ap held number ∙ ap (λ b. cond b 1 0) (waits-as ext σ k tagged few) in
-            omega (arith, held-set ext span σ 17203 inside);
+            omega (arith, held-set ext span σ 6553 inside);
       }
 
 -- a row that waits for a tuple waits as that tuple
@@ -82,7 +82,7 @@ waits-same ext span τ σ x e =
     ap (λ b. b && sameTuple row σ) (both .0) ∙ ap (λ ρ. sameTuple ρ σ) (same-tuple row τ (both .1))
 
 -- a slot in which a row waits is taken
-pub slot-taken : (ext : List ℕ) (span : ℕ) (τ : Tuple) (lo hi : List ℕ) (q : ℕ) → Sized lo hi → q < 17203 → waiting ext span τ (slotAt lo hi q) ≡ true
+pub slot-taken : (ext : List ℕ) (span : ℕ) (τ : Tuple) (lo hi : List ℕ) (q : ℕ) → Sized lo hi → q < 6553 → waiting ext span τ (slotAt lo hi q) ≡ true
     → OneLess ext span τ lo hi (set lo q 65535) (set hi q 255)
 slot-taken ext span τ lo hi q size inside waits =
     record {
@@ -90,7 +90,7 @@ slot-taken ext span τ lo hi q size inside waits =
       held = λ σ.
           let gone = dead ext span σ 16777215 refl in
           let was = ap {B = ℕ} (λ b. cond b 1 0) (waits-same ext span τ σ (slotAt lo hi q) waits) in
-          omega (arith, held-set lo hi size q 65535 255 inside ext span σ 17203 inside);
+          omega (arith, held-set lo hi size q 65535 255 inside ext span σ 6553 inside);
     }
 
 -- a row counts nothing of a tuple of another class
@@ -102,12 +102,12 @@ other-class rounds class σ τ n mine differs = go (sameTuple τ σ) refl
     go false e = refl
 
 -- no slot is used yet, and no row is put
-pub none-put : (ext : List ℕ) (span rounds class : ℕ) (zeros : List ℕ) → length zeros ≡ 17203 → ((s : ℕ) → s < 17203 → getD zeros s 0 ≡ 0)
+pub none-put : (ext : List ℕ) (span rounds class : ℕ) (zeros : List ℕ) → length zeros ≡ 6553 → ((s : ℕ) → s < 6553 → getD zeros s 0 ≡ 0)
     → Put ext span rounds class zeros zeros 0
 none-put ext span rounds class zeros size empty =
     record {
       size = record { low = size; high = size };
-      waits = λ σ mine. none-held ext span zeros zeros σ 17203 (λ s h. ap (λ x. live (x + 65536 * x)) (empty s h));
+      waits = λ σ mine. none-held ext span zeros zeros σ 6553 (λ s h. ap (λ x. live (x + 65536 * x)) (empty s h));
     }
 
 -- extension row k
@@ -178,6 +178,6 @@ module _ {program exec ext : List ℕ} {span rounds class : ℕ} {lo hi : List �
       }
 
   -- where no row waits any more, as much is pushed as is pulled
-  pub all-taken : ((s : ℕ) → s < 17203 → live (slotAt lo hi s) ≡ false) → (σ : Tuple) → classOf rounds σ ≡ class
+  pub all-taken : ((s : ℕ) → s < 6553 → live (slotAt lo hi s) ≡ false) → (σ : Tuple) → classOf rounds σ ≡ class
       → pushedTo (given program []) (tables exec ext) σ r ≡ pulledTo (tables exec ext) σ (length ext / 120)
-  all-taken none σ mine = omega (arith, taken .waits σ mine, none-held ext span lo hi σ 17203 none)
+  all-taken none σ mine = omega (arith, taken .waits σ mine, none-held ext span lo hi σ 6553 none)

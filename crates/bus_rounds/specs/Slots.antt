@@ -10,14 +10,11 @@ use lib.Dec.{eqb}
 use Rattle.rows.specs.Rows.{extAt}
 use Rattle.rules.specs.Bus.{Tuple, sameTuple, pulled, total, pushedTo, pulledTo}
 use Rattle.rules.specs.Sizes.{given, tables}
-
--- any function of the tuple would do
-unfoldable pub hashOf : Tuple → ℕ
-hashOf σ = 668265263 * σ .aux + 1013904223 * σ .left + 374761393 * σ .right + 914744491 * σ .out
+use Rattle.bus_tuples.specs.Sent.{hashOf}
 
 -- the round in which a tuple is settled
 unfoldable pub classOf : ℕ → Tuple → ℕ
-classOf rounds σ = hashOf σ / 17203 % rounds
+classOf rounds σ = hashOf σ / 6553 % rounds
 
 -- how far apart tags are: there is room for the number of each row, plus one
 abbrev pub Span : ℕ → Type 0
@@ -49,25 +46,25 @@ heldTo ext span lo hi σ n = total (λ s. cond (waiting ext span σ (slotAt lo h
 
 -- both arrays of slots
 pub record Sized (lo hi : List ℕ) : Type 0 where
-  pub low : length lo ≡ 17203
-  pub high : length hi ≡ 17203
+  pub low : length lo ≡ 6553
+  pub high : length hi ≡ 6553
 
 -- one row more waits in the slots than before, or one fewer: a row with this tuple
 pub record OneMore (ext : List ℕ) (span : ℕ) (τ : Tuple) (lo hi lo₁ hi₁ : List ℕ) : Type 0 where
   pub size : Sized lo₁ hi₁
-  pub held : (σ : Tuple) → heldTo ext span lo₁ hi₁ σ 17203 ≡ heldTo ext span lo hi σ 17203 + cond (sameTuple τ σ) 1 0
+  pub held : (σ : Tuple) → heldTo ext span lo₁ hi₁ σ 6553 ≡ heldTo ext span lo hi σ 6553 + cond (sameTuple τ σ) 1 0
 
 pub record OneLess (ext : List ℕ) (span : ℕ) (τ : Tuple) (lo hi lo₁ hi₁ : List ℕ) : Type 0 where
   pub size : Sized lo₁ hi₁
-  pub held : (σ : Tuple) → heldTo ext span lo₁ hi₁ σ 17203 + cond (sameTuple τ σ) 1 0 ≡ heldTo ext span lo hi σ 17203
+  pub held : (σ : Tuple) → heldTo ext span lo₁ hi₁ σ 6553 + cond (sameTuple τ σ) 1 0 ≡ heldTo ext span lo hi σ 6553
 
 -- of each tuple of the class, as many rows wait as the extension rows below k pull
 pub record Put (ext : List ℕ) (span rounds class : ℕ) (lo hi : List ℕ) (k : ℕ) : Type 0 where
   pub size : Sized lo hi
-  pub waits : (σ : Tuple) → classOf rounds σ ≡ class → heldTo ext span lo hi σ 17203 ≡ pulledTo (tables [] ext) σ k
+  pub waits : (σ : Tuple) → classOf rounds σ ≡ class → heldTo ext span lo hi σ 6553 ≡ pulledTo (tables [] ext) σ k
 
 -- and then as many as are pulled and the execution rows below r did not take
 pub record Taken (program exec ext : List ℕ) (span rounds class : ℕ) (lo hi : List ℕ) (r : ℕ) : Type 0 where
   pub size : Sized lo hi
   pub waits : (σ : Tuple) → classOf rounds σ ≡ class
-      → heldTo ext span lo hi σ 17203 + pushedTo (given program []) (tables exec ext) σ r ≡ pulledTo (tables exec ext) σ (length ext / 120)
+      → heldTo ext span lo hi σ 6553 + pushedTo (given program []) (tables exec ext) σ r ≡ pulledTo (tables exec ext) σ (length ext / 120)

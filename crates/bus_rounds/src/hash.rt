@@ -1,40 +1,30 @@
 // Where a tuple goes: its class is its round's, its slot the first that is tried, its tag spares it the rows of
 // most others. All that is proved of them is that the class is the tuple's alone.
 use bus_tuples::Sent;
-use word::wide;
+use bus_tuples::hash;
 ghost use mathlib.Core.Path.{_≡_};
 ghost use Prim.Native.Nat.{_<_};
 ghost use Rattle.bus_tuples.specs.Sent.{tupleOf};
-ghost use Rattle.bus_rounds.specs.Slots.{hashOf, classOf, Span, Tagged};
-
-// Odd numbers below 2^30, so that the sum fits 64 bits.
-fn hash(t: Sent) -> u64
-    ensures { λ r. ⌜ r ≡ hashOf (tupleOf t) ⌝ }
-{
-    668265263 * wide(t.aux)
-        + 1013904223 * wide(t.left)
-        + 374761393 * wide(t.right)
-        + 914744491 * wide(t.out)
-}
+ghost use Rattle.bus_rounds.specs.Slots.{classOf, Span, Tagged};
 
 pub fn class_of(t: Sent, rounds: u64) -> u64
     requires { ⌜ 0 < rounds ⌝ }
     ensures { λ r. ⌜ r ≡ classOf rounds (tupleOf t) ⌝ }
 {
-    hash(t) / 17203 % rounds
+    hash(t) / 6553 % rounds
 }
 
 pub fn slot_of(t: Sent) -> usize
-    ensures { λ r. ⌜ r < 17203 ⌝ }
+    ensures { λ r. ⌜ r < 6553 ⌝ }
 {
-    (hash(t) % 17203) as usize
+    (hash(t) % 6553) as usize
 }
 
 // How far apart the slots are that are tried for a tuple: another number for each, so that they don't crowd.
 pub fn step_of(t: Sent) -> usize
-    ensures { λ r. ⌜ r < 17203 ⌝ }
+    ensures { λ r. ⌜ r < 6553 ⌝ }
 {
-    (1 + hash(t) / 65536 % 16384) as usize
+    (1 + hash(t) / 65536 % 6552) as usize
 }
 
 // Where the numbers of a tuple's tag begin. A tag is below 127 or 7, so that none of them is the number of a slot that was taken.

@@ -29,8 +29,8 @@ fn round(program: &[u8], exec: &[u8], ext: &[u8], span: u32, rounds: u64, class:
         → pushedTo (given (now (program .entry)) []) (tables (now (exec .entry)) (now (ext .entry))) σ (length (now (exec .entry)) / 32)
         ≡ pulledTo (tables (now (exec .entry)) (now (ext .entry))) σ (length (now (ext .entry)) / 120)) ⌝ }
 {
-    let mut lo = [0u16; 17203];
-    let mut hi = [0u8; 17203];
+    let mut lo = [0u16; 6553];
+    let mut hi = [0u8; 6553];
     if !put_rows(ext, &mut lo, &mut hi, span, rounds, class) {
         return false;
     }
@@ -40,7 +40,7 @@ fn round(program: &[u8], exec: &[u8], ext: &[u8], span: u32, rounds: u64, class:
     none_waits(&lo, &hi)
 }
 
-// Where it is true every tuple is pushed as often as it is pulled; where it is false nothing is known. A round has room for 16384 pulls.
+// Where it is true every tuple is pushed as often as it is pulled; where it is false nothing is known. A round has room for 6144 pulls.
 pub fn pairs_up(program: &[u8], exec: &[u8], ext: &[u8]) -> bool
     requires { ⌜ Listed (now program) (now exec) ⌝ }
     ensures { λ r. ⌜ (r ≡ true → (σ : Tuple)
@@ -51,7 +51,7 @@ pub fn pairs_up(program: &[u8], exec: &[u8], ext: &[u8]) -> bool
         return false;
     }
     let span = span_of(ext);
-    let rounds = starts(ext) / 16385 + 1;
+    let rounds = starts(ext) / 6145 + 1;
     let mut class = 0;
     while class < rounds {
         if !round(program, exec, ext, span, rounds, class) {

@@ -30,13 +30,13 @@ pub fn starts(ext: &[u8]) -> u64 {
 }
 
 // Puts extension row k into a slot, where tuple t is looked for. False where none is found.
-fn put_slot(lo: &mut [u16; 17203], hi: &mut [u8; 17203], span: u32, t: Sent, k: usize) -> bool
+fn put_slot(lo: &mut [u16; 6553], hi: &mut [u8; 6553], span: u32, t: Sent, k: usize) -> bool
     requires { ⌜ Span span × (k + 1 < span) ⌝ }
     ensures { λ r. ⌜ (r ≡ true → (ext : List ℕ) → Sized (now (lo .entry)) (now (hi .entry))
         → OneMore ext span (pulled (extAt ext (120 * k))) (now (lo .entry)) (now (hi .entry)) (now (lo .exit)) (now (hi .exit))) ⌝ }
 {
     let s = empty_for(lo, hi, t);
-    if s < 17203 {
+    if s < 6553 {
         let x = low_of(t, span) + k as u32 + 1;
         lo[s] = (x % 65536) as u16;
         hi[s] = (x / 65536) as u8;
@@ -48,8 +48,8 @@ fn put_slot(lo: &mut [u16; 17203], hi: &mut [u8; 17203], span: u32, t: Sent, k: 
 // Puts extension row k, if it pulls a tuple of the class. False where it pulls more than once, or no slot is found.
 fn put_row(
     ext: &[u8],
-    lo: &mut [u16; 17203],
-    hi: &mut [u8; 17203],
+    lo: &mut [u16; 6553],
+    hi: &mut [u8; 6553],
     span: u32,
     rounds: u64,
     class: u64,
@@ -77,8 +77,8 @@ fn put_row(
 
 pub fn put_rows(
     ext: &[u8],
-    lo: &mut [u16; 17203],
-    hi: &mut [u8; 17203],
+    lo: &mut [u16; 6553],
+    hi: &mut [u8; 6553],
     span: u32,
     rounds: u64,
     class: u64,

@@ -31,19 +31,19 @@ fn number(lo: u16, hi: u8) -> u32
 }
 
 fn after(s: usize, step: usize) -> usize
-    requires { ⌜ (s < 17203) × (step < 17203) ⌝ }
-    ensures { λ r. ⌜ r < 17203 ⌝ }
+    requires { ⌜ (s < 6553) × (step < 6553) ⌝ }
+    ensures { λ r. ⌜ r < 6553 ⌝ }
 {
     let next = s + step;
-    if next < 17203 {
+    if next < 6553 {
         return next;
     }
-    next - 17203
+    next - 6553
 }
 
-// An empty slot for tuple t; 17203 where none is found.
-pub fn empty_for(lo: &[u16; 17203], hi: &[u8; 17203], t: Sent) -> usize
-    ensures { λ r. ⌜ (r < 17203 → slotAt (now (lo .entry)) (now (hi .entry)) r ≡ 0) ⌝ }
+// An empty slot for tuple t; 6553 where none is found.
+pub fn empty_for(lo: &[u16; 6553], hi: &[u8; 6553], t: Sent) -> usize
+    ensures { λ r. ⌜ (r < 6553 → slotAt (now (lo .entry)) (now (hi .entry)) r ≡ 0) ⌝ }
 {
     let step = step_of(t);
     let mut s = slot_of(t);
@@ -55,7 +55,7 @@ pub fn empty_for(lo: &[u16; 17203], hi: &[u8; 17203], t: Sent) -> usize
         s = after(s, step);
         tried += 1;
     }
-    17203
+    6553
 }
 
 // Whether a slot's number is that of a row with the tag that begins at low, and the row's tuple is t. A row is read only where the tag agrees.
@@ -72,10 +72,10 @@ fn waits(ext: &[u8], x: u32, t: Sent, low: u32) -> bool
     same(tuple_at(ext, at), t)
 }
 
-// A slot where a row with tuple t waits; 17203 where none is found. None is beyond an empty slot.
-pub fn waiting_for(ext: &[u8], lo: &[u16; 17203], hi: &[u8; 17203], span: u32, t: Sent) -> usize
+// A slot where a row with tuple t waits; 6553 where none is found. None is beyond an empty slot.
+pub fn waiting_for(ext: &[u8], lo: &[u16; 6553], hi: &[u8; 6553], span: u32, t: Sent) -> usize
     requires { ⌜ Room (now ext) span ⌝ }
-    ensures { λ r. ⌜ (r < 17203 → waiting (now (ext .entry)) span (tupleOf t) (slotAt (now (lo .entry)) (now (hi .entry)) r) ≡ true) ⌝ }
+    ensures { λ r. ⌜ (r < 6553 → waiting (now (ext .entry)) span (tupleOf t) (slotAt (now (lo .entry)) (now (hi .entry)) r) ≡ true) ⌝ }
 {
     let low = low_of(t, span);
     let step = step_of(t);
@@ -84,7 +84,7 @@ pub fn waiting_for(ext: &[u8], lo: &[u16; 17203], hi: &[u8; 17203], span: u32, t
     while tried < 2048 {
         let x = number(lo[s], hi[s]);
         if x == 0 {
-            return 17203;
+            return 6553;
         }
         if waits(ext, x, t, low) {
             return s;
@@ -92,7 +92,7 @@ pub fn waiting_for(ext: &[u8], lo: &[u16; 17203], hi: &[u8; 17203], span: u32, t
         s = after(s, step);
         tried += 1;
     }
-    17203
+    6553
 }
 
 fn is_live(x: u32) -> bool
@@ -102,12 +102,12 @@ fn is_live(x: u32) -> bool
 }
 
 // Whether no row waits. Every slot is looked at, whatever the ones before it hold, so that the compiler looks at many at once.
-pub fn none_waits(lo: &[u16; 17203], hi: &[u8; 17203]) -> bool
-    ensures { λ r. ⌜ (r ≡ true → (s : ℕ) → s < 17203 → live (slotAt (now (lo .entry)) (now (hi .entry)) s) ≡ false) ⌝ }
+pub fn none_waits(lo: &[u16; 6553], hi: &[u8; 6553]) -> bool
+    ensures { λ r. ⌜ (r ≡ true → (s : ℕ) → s < 6553 → live (slotAt (now (lo .entry)) (now (hi .entry)) s) ≡ false) ⌝ }
 {
     let mut none = true;
     let mut s = 0;
-    while s < 17203 {
+    while s < 6553 {
         none = none & !is_live(number(lo[s], hi[s]));
         s += 1;
     }

@@ -13,13 +13,13 @@ ghost use Rattle.bus_tuples.specs.Ready.{Listed};
 ghost use Rattle.bus_rounds.specs.Slots.{Room, Sized, OneLess, Taken};
 
 // Takes a row with tuple t out of its slot. False where none is found that waits.
-fn take_slot(ext: &[u8], lo: &mut [u16; 17203], hi: &mut [u8; 17203], span: u32, t: Sent) -> bool
+fn take_slot(ext: &[u8], lo: &mut [u16; 6553], hi: &mut [u8; 6553], span: u32, t: Sent) -> bool
     requires { ⌜ Room (now ext) span ⌝ }
     ensures { λ b. ⌜ (b ≡ true → Sized (now (lo .entry)) (now (hi .entry))
         → OneLess (now (ext .entry)) span (tupleOf t) (now (lo .entry)) (now (hi .entry)) (now (lo .exit)) (now (hi .exit))) ⌝ }
 {
     let s = waiting_for(ext, lo, hi, span, t);
-    if s < 17203 {
+    if s < 6553 {
         lo[s] = 65535;
         hi[s] = 255;
         return true;
@@ -32,8 +32,8 @@ fn take_row(
     program: &[u8],
     exec: &[u8],
     ext: &[u8],
-    lo: &mut [u16; 17203],
-    hi: &mut [u8; 17203],
+    lo: &mut [u16; 6553],
+    hi: &mut [u8; 6553],
     span: u32,
     rounds: u64,
     class: u64,
@@ -60,8 +60,8 @@ pub fn take_rows(
     program: &[u8],
     exec: &[u8],
     ext: &[u8],
-    lo: &mut [u16; 17203],
-    hi: &mut [u8; 17203],
+    lo: &mut [u16; 6553],
+    hi: &mut [u8; 6553],
     span: u32,
     rounds: u64,
     class: u64,

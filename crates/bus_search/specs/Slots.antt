@@ -1,10 +1,11 @@
--- The slots of a window: two lists of numbers that hold tuples. A tuple's slot is a function of the tuple and of the slots' contents.
+-- Inner: the slots of a window, two lists of numbers that hold tuples. A tuple's slot is a function of the tuple and of the slots' contents.
 use mathlib.Core.Bool.{Bool, _&&_, _||_, cond}
 use mathlib.Core.List.{List}
 use Prim.Native.Nat.{ℕ, zero, suc, _+_, _*_, _/_, _%_}
 use lib.ListN.{getD}
 use lib.Dec.{eqb, ltb, leb}
 use Rattle.rules.specs.Bus.{Tuple, sameTuple}
+use Rattle.bus_search.specs.Marks.{isMarked}
 
 -- the tuple of a slot: two words in each of two numbers
 abbrev pub tupleAt : List ℕ → List ℕ → ℕ → Tuple
@@ -31,12 +32,8 @@ descended upper lower u l (suc k) at step = descended upper lower u l k (stepped
 unfoldable pub placeOf : List ℕ → List ℕ → Tuple → ℕ
 placeOf upper lower σ = descended upper lower (σ .aux * 4294967296 + σ .left) (σ .right * 4294967296 + σ .out) 10 0 512
 
--- the slot that holds a tuple: slot 0, or the one that the steps lead to; 1024 where neither does
-unfoldable pub slotOf : List ℕ → List ℕ → Tuple → ℕ
-slotOf upper lower σ =
+-- the slot that holds a tuple: slot 0, or the one that the steps lead to, if the tuple is marked; 1024 where neither does
+unfoldable pub slotOf : List ℕ → List ℕ → List ℕ → Tuple → ℕ
+slotOf upper lower marks σ =
     cond (sameTuple (tupleAt upper lower 0) σ) 0
-    (cond (sameTuple (tupleAt upper lower (placeOf upper lower σ)) σ) (placeOf upper lower σ) 1024)
-
--- the same, and where none holds it 1024 more than the place after which it belongs
-unfoldable pub soughtOf : List ℕ → List ℕ → Tuple → ℕ
-soughtOf upper lower σ = cond (ltb (slotOf upper lower σ) 1024) (slotOf upper lower σ) (1024 + placeOf upper lower σ)
+    (cond (isMarked marks σ && sameTuple (tupleAt upper lower (placeOf upper lower σ)) σ) (placeOf upper lower σ) 1024)

@@ -1,14 +1,18 @@
 // Where a window of 1024 slots holds a tuple, or where it belongs. A slot is a number of `upper` and one of `lower`; slots 1 to 1023 are kept
 // sorted, and those not used are above every tuple. Nothing is proved of the order: a slot that is found holds the tuple, and the same tuple is
 // always found in the same slot, which is all that counting needs.
+mod marks;
+
 use bus_tuples::Sent;
 use bus_tuples::same;
+use marks::is_marked;
+pub use marks::mark;
 use word::wide;
 ghost use mathlib.Core.Path.{_≡_};
 ghost use Prim.Native.Nat.{_+_, _*_, _/_, _%_, _<_, _≤_};
 ghost use Rattle.rules.specs.Bus.{sameTuple};
 ghost use Rattle.bus_tuples.specs.Sent.{tupleOf};
-ghost use Rattle.bus_search.specs.Slots.{tupleAt, atMost, stepped, placeOf, soughtOf};
+ghost use Rattle.bus_search.specs.Slots.{tupleAt, atMost, stepped, placeOf, slotOf};
 
 // Two words in a number.
 pub fn joined(high: u32, low: u32) -> u64
@@ -60,7 +64,7 @@ fn step_on(
 }
 
 // The last of the sorted slots that is at most the tuple; 0 where none is.
-fn place(uppers: &[u64; 1024], lowers: &[u64; 1024], t: Sent) -> usize
+pub fn place(uppers: &[u64; 1024], lowers: &[u64; 1024], t: Sent) -> usize
     ensures { λ r. ⌜ (r ≡ placeOf (now (uppers .entry)) (now (lowers .entry)) (tupleOf t)) × (r < 1024) ⌝ }
 {
     let upper = joined(t.aux, t.left);
@@ -83,16 +87,19 @@ fn holds(uppers: &[u64; 1024], lowers: &[u64; 1024], at: usize, t: Sent) -> bool
     same(tuple_of(uppers[at], lowers[at]), t)
 }
 
-// The slot that holds a tuple; where none does, 1024 more than the place after which it belongs.
-pub fn seek(uppers: &[u64; 1024], lowers: &[u64; 1024], t: Sent) -> usize
-    ensures { λ r. ⌜ r ≡ soughtOf (now (uppers .entry)) (now (lowers .entry)) (tupleOf t) ⌝ }
+// The slot that holds a tuple; 1024 where none does. Most tuples that are not held have no mark, and are not searched for.
+pub fn seek(uppers: &[u64; 1024], lowers: &[u64; 1024], marks: &[u64; 64], t: Sent) -> usize
+    ensures { λ r. ⌜ r ≡ slotOf (now (uppers .entry)) (now (lowers .entry)) (now (marks .entry)) (tupleOf t) ⌝ }
 {
     if holds(uppers, lowers, 0, t) {
         return 0;
+    }
+    if !is_marked(marks, t) {
+        return 1024;
     }
     let at = place(uppers, lowers, t);
     if holds(uppers, lowers, at, t) {
         return at;
     }
-    1024 + at
+    1024
 }

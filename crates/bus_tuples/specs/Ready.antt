@@ -27,3 +27,10 @@ pub record Flags (x : Ext) : Type 0 where
 
 abbrev pub Flagged : List ℕ → Type 0
 Flagged ext = (k : ℕ) → k < length ext / 120 → Flags (extAt ext (120 * k))
+
+-- all of it
+pub record Ready (program exec ext : List ℕ) : Type 0 where
+  pub listed : Listed program exec
+  pub flagged : Flagged ext
+  pub exec-short : Short exec
+  pub ext-short : Short ext

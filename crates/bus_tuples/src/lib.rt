@@ -13,6 +13,7 @@ pub use row::row_pushes;
 pub use row::row_tuple;
 pub use times::is_precompile;
 pub use times::pull_times;
+pub use tuple::hash;
 pub use tuple::pushed_tuple;
 pub use tuple::same;
 pub use tuple::tuple_at;

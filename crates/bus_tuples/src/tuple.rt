@@ -13,7 +13,7 @@ ghost use Rattle.word.specs.Word.{p};
 ghost use Rattle.form.specs.Data.{dataOf};
 ghost use Rattle.rows.specs.Rows.{extAt};
 ghost use Rattle.rules.specs.Bus.{sameTuple, pushed, pulled};
-ghost use Rattle.bus_tuples.specs.Sent.{tupleOf};
+ghost use Rattle.bus_tuples.specs.Sent.{tupleOf, hashOf};
 
 // (DATA, νA, νB, νC)
 pub fn pushed_tuple(i: Instruction, x: Exec) -> Sent
@@ -61,4 +61,14 @@ pub fn same(s: Sent, t: Sent) -> bool
     ensures { λ r. ⌜ r ≡ sameTuple (tupleOf s) (tupleOf t) ⌝ }
 {
     (s.aux == t.aux) & (s.left == t.left) & (s.right == t.right) & (s.out == t.out)
+}
+
+// Odd numbers below 2^30, so that the sum fits 64 bits.
+pub fn hash(t: Sent) -> u64
+    ensures { λ r. ⌜ r ≡ hashOf (tupleOf t) ⌝ }
+{
+    668265263 * wide(t.aux)
+        + 1013904223 * wide(t.left)
+        + 374761393 * wide(t.right)
+        + 914744491 * wide(t.out)
 }

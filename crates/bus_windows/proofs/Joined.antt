@@ -1,18 +1,18 @@
 -- Both tables as one sequence of senders: its totals are those of the tables, and its first failure is the first push's, else the first pull's.
 -- Assumes nothing.
-use mathlib.Core.Path.{_≡_, refl, sym, ap, _∙_, subst}
-use mathlib.Core.Bool.{Bool, true, false, _||_}
+use mathlib.Core.Path.{_≡_, refl, ap, _∙_}
+use mathlib.Core.Bool.{Bool, true, false, _||_, cond}
 use Prim.Native.Nat.{ℕ, zero, suc, _+_, _-_, _≤_, _<_}
+use native.Mathlib.Nat.{sub-zero}
 use native.Mathlib.Omega.{arith}
 use borrow.Author.Tests.{lt-ltb, le-ltb, eq-eqb, ne-eqb}
 use Rattle.rules.specs.Given.{Given, Tables, zero?}
 use Rattle.rules.specs.Bus.{pushes, pulls, instructionOf, total, balanced}
 use Rattle.judge_spec.specs.First.{first}
 use Rattle.judge_spec.specs.Judged.{pushBalanced, pullBalanced, firstPush, firstPull}
-use Rattle.judge_spec.proofs.FirstLaws.{first-before, first-fails, first-found, first-none}
 use Rattle.bus_tuples.proofs.Totals.{total-same}
 use Rattle.bus_windows.specs.declared.Tally.{Tally}
-use Rattle.bus_windows.specs.Senders.{Sending, pushSent, pullSent, sendingOf, equalAt, Reads}
+use Rattle.bus_windows.specs.Senders.{Sending, pushSent, pullSent, sendingOf, equalAt, Tallies}
 
 -- totals of two sequences, one after the other
 pub total-join : (f a b : ℕ → ℕ) (h k : ℕ) → ((r : ℕ) → r < h → f r ≡ a r) → ((r : ℕ) → r < k → f (h + r) ≡ b r)
@@ -27,6 +27,25 @@ total-join f a b h (suc k) low high =
 pub total-none : (n : ℕ) → total (λ r. 0) n ≡ 0
 total-none zero = refl
 total-none (suc n) = omega (arith, total-none n)
+
+-- a search by the same test, and one that begins later
+first-same : (f a : ℕ → Bool) (i n : ℕ) → ((k : ℕ) → i ≤ k → k < i + n → f k ≡ a k) → first f i n ≡ first a i n
+unfolding first
+first-same f a i zero same = refl
+first-same f a i (suc n) same =
+    λ j. cond (same i (omega arith) (omega arith) j) (first-same f a (suc i) n (λ k low high. same k (omega arith) (omega arith)) j) i
+
+first-shift : (f : ℕ → Bool) (h i n : ℕ) → first f (h + i) n ≡ h + first (λ k. f (h + k)) i n
+unfolding first
+first-shift f h i zero = refl
+first-shift f h i (suc n) =
+    let next : suc (h + i) ≡ h + suc i = omega arith in
+    let later = ap (λ k. first f k n) next ∙ first-shift f h (suc i) n in
+    go (f (h + i)) (first f (suc (h + i)) n) (first (λ k. f (h + k)) (suc i) n) later
+  where
+    go : (b : Bool) (x y : ℕ) → x ≡ h + y → cond b x (h + i) ≡ h + cond b y i
+    go true x y e = e
+    go false x y e = refl
 
 module _ (g : Given) (t : Tables) where
   pub send-push : (r : ℕ) → r < t .height → sendingOf g t r ≡ pushSent g t r
@@ -54,7 +73,7 @@ module _ (g : Given) (t : Tables) where
   equal-pull k = ap (λ s. zero? (s .plus + s .minus) || balanced g t (s .tuple)) (send-pull k) ∙ tested (pullSent t k) (pulls (t .ext k)) (omega arith)
 
   -- what the code reads of sender j says of its test
-  module _ (j : ℕ) (x : Tally) (reads : Reads x (sendingOf g t j)) where
+  module _ (j : ℕ) (x : Tally) (reads : Tallies x (sendingOf g t j)) where
     pub equal-nothing : x .plus + x .minus ≡ 0 → equalAt g t j ≡ true
     unfolding equalAt
     equal-nothing none =
@@ -68,31 +87,14 @@ module _ (g : Given) (t : Tables) where
         (ne-eqb (sendingOf g t j .plus + sendingOf g t j .minus) 0 (λ z. some (omega (arith, reads .plus-is, reads .minus-is))))
         ∙ e
 
-  -- where the first sender that is unequal is m
-  module _ (m : ℕ) (e : m ≡ first (equalAt g t) 0 (t .height + t .extHeight)) where
-    before : (j : ℕ) → j < m → equalAt g t j ≡ true
-    before j h = first-before (equalAt g t) (t .height + t .extHeight) j (rw e at h)
+  -- the first that is unequal, of the pushing rows and of the pulling rows, as the code looks for them
+  pub first-push : first (equalAt g t) 0 (t .height - 0) ≡ firstPush g t
+  first-push = rw (sub-zero (t .height)) (first-same (equalAt g t) (pushBalanced g t) 0 (t .height) (λ r low high. equal-push r (omega arith)))
 
-    at : m < t .height + t .extHeight → equalAt g t m ≡ false
-    at h = subst (λ j. equalAt g t j ≡ false) (sym e) (first-fails (equalAt g t) (t .height + t .extHeight) (rw e at h))
-
-    pub push-first : m < t .height → firstPush g t ≡ m
-    push-first h =
-        first-found (pushBalanced g t) (t .height) m h
-        (λ r b. sym (equal-push r (omega arith)) ∙ before r b)
-        (sym (equal-push m h) ∙ at (omega arith))
-
-    pub push-none : t .height ≤ m → firstPush g t ≡ t .height
-    push-none h = first-none (pushBalanced g t) (t .height) .1 (λ r b. sym (equal-push r b) ∙ before r (omega arith))
-
-    pulls-before : (k : ℕ) → t .height + k < m → pullBalanced g t k ≡ true
-    pulls-before k h = sym (equal-pull k) ∙ before (t .height + k) h
-
-    pub pull-first : (k : ℕ) → m ≡ t .height + k → k < t .extHeight → firstPull g t ≡ k
-    pull-first k is h =
-        first-found (pullBalanced g t) (t .extHeight) k h
-        (λ r b. pulls-before r (omega arith))
-        (sym (equal-pull k) ∙ subst (λ j. equalAt g t j ≡ false) is (at (omega arith)))
-
-    pub pull-none : t .height + t .extHeight ≤ m → firstPull g t ≡ t .extHeight
-    pull-none h = first-none (pullBalanced g t) (t .extHeight) .1 (λ r b. pulls-before r (omega arith))
+  pub first-pull : first (equalAt g t) (t .height) (t .height + t .extHeight - t .height) ≡ t .height + firstPull g t
+  first-pull =
+      let begin : t .height ≡ t .height + 0 = omega arith in
+      let left : t .height + t .extHeight - t .height ≡ t .extHeight = omega arith in
+      (λ i. first (equalAt g t) (begin i) (left i))
+      ∙ first-shift (equalAt g t) (t .height) 0 (t .extHeight)
+      ∙ ap (λ k. t .height + k) (first-same (λ k. equalAt g t (t .height + k)) (pullBalanced g t) 0 (t .extHeight) (λ k low high. equal-pull k))

@@ -15,7 +15,7 @@ use Rattle.bus_search.specs.Slots.{slotOf}
 use Rattle.bus_search.proofs.Slots.{slot-same}
 use Rattle.bus_tuples.proofs.Totals.{one-more, counts-none}
 use Rattle.bus_windows.specs.declared.Tally.{Tally}
-use Rattle.bus_windows.specs.Senders.{Sending, sendingOf, Reads}
+use Rattle.bus_windows.specs.Senders.{Sending, sendingOf, Tallies}
 use Rattle.bus_windows.specs.Window.{plusTo, minusTo, Count, Counted}
 use Rattle.bus_windows.proofs.Joined.{total-join, total-none, send-push, send-pull}
 
@@ -42,39 +42,39 @@ module _ (send : ℕ → Sending) (slot : Tuple → ℕ) where
         minus-few = omega (arith, c .minus-few);
       }
 
-module _ (g : Given) (t : Tables) (upper lower net : List ℕ) (n : ℕ) (x : Tally) (reads : Reads x (sendingOf g t n))
-    (counted : Counted g t upper lower net n) where
+module _ (g : Given) (t : Tables) (upper lower marks net : List ℕ) (n : ℕ) (x : Tally) (reads : Tallies x (sendingOf g t n))
+    (counted : Counted g t upper lower marks net n) where
   -- a sender that sends nothing
-  pub counts-nothing : x .plus + x .minus ≡ 0 → Counted g t upper lower net (n + 1)
+  pub counts-nothing : x .plus + x .minus ≡ 0 → Counted g t upper lower marks net (n + 1)
   counts-nothing none s h =
       let no-plus : sendingOf g t n .plus ≡ 0 = omega (arith, reads .plus-is) in
       let no-minus : sendingOf g t n .minus ≡ 0 = omega (arith, reads .minus-is) in
-      counts-on (sendingOf g t) (slotOf upper lower) s n (getD net s 0) (getD net s 0) 0 0
-      (counts-none (eqb (slotOf upper lower (sendingOf g t n .tuple)) s) (sendingOf g t n .plus) no-plus)
-      (counts-none (eqb (slotOf upper lower (sendingOf g t n .tuple)) s) (sendingOf g t n .minus) no-minus)
+      counts-on (sendingOf g t) (slotOf upper lower marks) s n (getD net s 0) (getD net s 0) 0 0
+      (counts-none (eqb (slotOf upper lower marks (sendingOf g t n .tuple)) s) (sendingOf g t n .plus) no-plus)
+      (counts-none (eqb (slotOf upper lower marks (sendingOf g t n .tuple)) s) (sendingOf g t n .minus) no-minus)
       (omega arith) (omega arith) refl (counted s h)
 
-  other : (s : ℕ) (list : List ℕ) → getD list s 0 ≡ getD net s 0 → s < 1024 → (slotOf upper lower (sendingOf g t n .tuple) ≡ s → ⊥)
-      → Count (sendingOf g t) (slotOf upper lower) s (n + 1) (getD list s 0)
+  other : (s : ℕ) (list : List ℕ) → getD list s 0 ≡ getD net s 0 → s < 1024 → (slotOf upper lower marks (sendingOf g t n .tuple) ≡ s → ⊥)
+      → Count (sendingOf g t) (slotOf upper lower marks) s (n + 1) (getD list s 0)
   other s list e h differs =
-      let no : eqb (slotOf upper lower (sendingOf g t n .tuple)) s ≡ false = ne-eqb (slotOf upper lower (sendingOf g t n .tuple)) s differs in
-      counts-on (sendingOf g t) (slotOf upper lower) s n (getD net s 0) (getD list s 0) 0 0 (rw no) (rw no) (omega arith) (omega arith) (rw e) (counted s h)
+      let no : eqb (slotOf upper lower marks (sendingOf g t n .tuple)) s ≡ false = ne-eqb (slotOf upper lower marks (sendingOf g t n .tuple)) s differs in
+      counts-on (sendingOf g t) (slotOf upper lower marks) s n (getD net s 0) (getD list s 0) 0 0 (rw no) (rw no) (omega arith) (omega arith) (rw e) (counted s h)
 
   -- a sender whose tuple has no slot
-  pub counts-absent : 1024 ≤ slotOf upper lower (sendingOf g t n .tuple) → Counted g t upper lower net (n + 1)
+  pub counts-absent : 1024 ≤ slotOf upper lower marks (sendingOf g t n .tuple) → Counted g t upper lower marks net (n + 1)
   counts-absent absent s h = other s net refl h (λ e. omega arith)
 
   -- a sender whose tuple has a slot
-  pub counts-held : (q value : ℕ) → q ≡ slotOf upper lower (sendingOf g t n .tuple) → q < length net → value + x .minus ≡ getD net q 0 + x .plus
-      → Counted g t upper lower (set net q value) (n + 1)
+  pub counts-held : (q value : ℕ) → q ≡ slotOf upper lower marks (sendingOf g t n .tuple) → q < length net → value + x .minus ≡ getD net q 0 + x .plus
+      → Counted g t upper lower marks (set net q value) (n + 1)
   counts-held q value is inside e s h = go (eqb s q) refl
     where
-      go : (b : Bool) → eqb s q ≡ b → Count (sendingOf g t) (slotOf upper lower) s (n + 1) (getD (set net q value) s 0)
+      go : (b : Bool) → eqb s q ≡ b → Count (sendingOf g t) (slotOf upper lower marks) s (n + 1) (getD (set net q value) s 0)
       go true t-same =
           let at : s ≡ q = eqb-true s q t-same in
-          let yes : eqb (slotOf upper lower (sendingOf g t n .tuple)) s ≡ true = eq-eqb (slotOf upper lower (sendingOf g t n .tuple)) s (sym is ∙ sym at) in
+          let yes : eqb (slotOf upper lower marks (sendingOf g t n .tuple)) s ≡ true = eq-eqb (slotOf upper lower marks (sendingOf g t n .tuple)) s (sym is ∙ sym at) in
           let stored : getD (set net q value) s 0 ≡ value = rw at (getD-set-same net q value 0 inside) in
-          counts-on (sendingOf g t) (slotOf upper lower) s n (getD net s 0) (getD (set net q value) s 0) (x .plus) (x .minus)
+          counts-on (sendingOf g t) (slotOf upper lower marks) s n (getD net s 0) (getD (set net q value) s 0) (x .plus) (x .minus)
           (rw yes (sym (reads .plus-is))) (rw yes (sym (reads .minus-is))) (reads .once) (reads .thrice)
           (rw (stored, at) e) (counted s h)
       go false t-other =
@@ -82,31 +82,31 @@ module _ (g : Given) (t : Tables) (upper lower net : List ℕ) (n : ℕ) (x : Ta
           other s (set net q value) (getD-set-other net q s value 0 differs) h (λ w. differs (sym w ∙ sym is))
 
 -- after every sender a slot's count says whether its tuple is pushed as often as it is pulled
-module _ (g : Given) (t : Tables) (upper lower : List ℕ) (σ : Tuple) (s : ℕ) (is : s ≡ slotOf upper lower σ) (h : s < 1024) where
-  all-pushes : plusTo (sendingOf g t) (slotOf upper lower) s (t .height + t .extHeight) ≡ pushedTo g t σ (t .height)
+module _ (g : Given) (t : Tables) (upper lower marks : List ℕ) (σ : Tuple) (s : ℕ) (is : s ≡ slotOf upper lower marks σ) (h : s < 1024) where
+  all-pushes : plusTo (sendingOf g t) (slotOf upper lower marks) s (t .height + t .extHeight) ≡ pushedTo g t σ (t .height)
   unfolding plusTo
   all-pushes =
       let joined =
-      total-join (λ j. cond (eqb (slotOf upper lower (sendingOf g t j .tuple)) s) (sendingOf g t j .plus) 0)
+      total-join (λ j. cond (eqb (slotOf upper lower marks (sendingOf g t j .tuple)) s) (sendingOf g t j .plus) 0)
       (λ r. cond (sameTuple (pushed (instructionOf g t r) (t .exec r)) σ) (pushes (instructionOf g t r)) 0)
       (λ k. 0) (t .height) (t .extHeight)
-      (λ r b. rw (send-push g t r b, slot-same upper lower σ (pushed (instructionOf g t r) (t .exec r)) s is h))
-      (λ k b. rw (send-pull g t k) (counts-none (eqb (slotOf upper lower (pulled (t .ext k))) s) 0 refl)) in
+      (λ r b. rw (send-push g t r b, slot-same upper lower marks σ (pushed (instructionOf g t r) (t .exec r)) s is h))
+      (λ k b. rw (send-pull g t k) (counts-none (eqb (slotOf upper lower marks (pulled (t .ext k))) s) 0 refl)) in
       omega (arith, total-none (t .extHeight))
 
-  all-pulls : minusTo (sendingOf g t) (slotOf upper lower) s (t .height + t .extHeight) ≡ pulledTo t σ (t .extHeight)
+  all-pulls : minusTo (sendingOf g t) (slotOf upper lower marks) s (t .height + t .extHeight) ≡ pulledTo t σ (t .extHeight)
   unfolding minusTo
   all-pulls =
       let joined =
-      total-join (λ j. cond (eqb (slotOf upper lower (sendingOf g t j .tuple)) s) (sendingOf g t j .minus) 0)
+      total-join (λ j. cond (eqb (slotOf upper lower marks (sendingOf g t j .tuple)) s) (sendingOf g t j .minus) 0)
       (λ r. 0)
       (λ k. cond (sameTuple (pulled (t .ext k)) σ) (pulls (t .ext k)) 0)
       (t .height) (t .extHeight)
-      (λ r b. rw (send-push g t r b) (counts-none (eqb (slotOf upper lower (pushed (instructionOf g t r) (t .exec r))) s) 0 refl))
-      (λ k b. rw (send-pull g t k, slot-same upper lower σ (pulled (t .ext k)) s is h)) in
+      (λ r b. rw (send-push g t r b) (counts-none (eqb (slotOf upper lower marks (pushed (instructionOf g t r) (t .exec r))) s) 0 refl))
+      (λ k b. rw (send-pull g t k, slot-same upper lower marks σ (pulled (t .ext k)) s is h)) in
       omega (arith, total-none (t .height))
 
-  module _ (count : ℕ) (c : Count (sendingOf g t) (slotOf upper lower) s (t .height + t .extHeight) count) where
+  module _ (count : ℕ) (c : Count (sendingOf g t) (slotOf upper lower marks) s (t .height + t .extHeight) count) where
     pub count-equal : count ≡ 2147483648 → balanced g t σ ≡ true
     count-equal e =
         eq-eqb (pushedTo g t σ (t .height)) (pulledTo t σ (t .extHeight)) (omega (arith, c .net, all-pushes, all-pulls))

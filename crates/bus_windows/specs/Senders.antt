@@ -1,6 +1,6 @@
 -- Inner: the execution rows and then the extension rows as one sequence of senders, in the order in which verdict 7 tries them.
 use mathlib.Core.Path.{_≡_}
-use mathlib.Core.Bool.{Bool, true, false, _||_, cond}
+use mathlib.Core.Bool.{Bool, _||_, cond}
 use Prim.Native.Nat.{ℕ, _+_, _-_, _≤_, _<_}
 use lib.Dec.{ltb}
 use Rattle.rules.specs.Given.{Given, Tables, zero?}
@@ -9,6 +9,7 @@ use Rattle.judge_spec.specs.First.{first}
 use Rattle.bus_tuples.specs.Sent.{tupleOf}
 use Rattle.bus_windows.specs.declared.Tally.{Tally}
 use Rattle.bus_windows.specs.declared.Looked.{Looked}
+use Rattle.bus_windows.specs.declared.Looked.the-variants.{Refused, Next}
 
 -- a tuple, how often it is pushed, and how often it is pulled
 pub record Sending : Type 0 where
@@ -30,7 +31,7 @@ abbrev pub senders : Tables → ℕ
 senders t = t .height + t .extHeight
 
 -- what the code reads of a sender; its tuple is read only where it is sent
-pub record Reads (x : Tally) (s : Sending) : Type 0 where
+pub record Tallies (x : Tally) (s : Sending) : Type 0 where
   pub plus-is : x .plus ≡ s .plus
   pub minus-is : x .minus ≡ s .minus
   pub once : x .plus ≤ 1
@@ -41,9 +42,12 @@ pub record Reads (x : Tally) (s : Sending) : Type 0 where
 unfoldable pub equalAt : Given → Tables → ℕ → Bool
 equalAt g t j = zero? (sendingOf g t j .plus + sendingOf g t j .minus) || balanced g t (sendingOf g t j .tuple)
 
--- what a look at the senders from one on says: the first whose tuple is unequal, or a later one with none before it
-pub record LooksFrom (g : Given) (t : Tables) (from : ℕ) (r : Looked) : Type 0 where
-  pub refuses : r .unequal ≡ true → r .at ≡ first (equalAt g t) from (senders t - from)
-  pub goes : r .unequal ≡ false → from < r .at
-  pub within : r .at ≤ senders t
-  pub left : r .unequal ≡ false → first (equalAt g t) from (senders t - from) ≡ first (equalAt g t) (r .at) (senders t - r .at)
+-- what a look at the senders from one on and below another says: the first whose tuple is unequal, or a later one with none before it
+pub record GoesOn (equal : ℕ → Bool) (from to at : ℕ) : Type 0 where
+  pub goes : from < at
+  pub within : at ≤ to
+  pub left : first equal from (to - from) ≡ first equal at (to - at)
+
+abbrev pub LooksFrom : Given → Tables → ℕ → ℕ → Looked → Type 0
+LooksFrom g t from to (Refused at) = at ≡ first (equalAt g t) from (to - from)
+LooksFrom g t from to (Next at) = GoesOn (equalAt g t) from to at

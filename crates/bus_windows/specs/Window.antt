@@ -8,7 +8,8 @@ use lib.Dec.{eqb}
 use Rattle.rules.specs.Given.{Given, Tables}
 use Rattle.rules.specs.Bus.{Tuple, total}
 use Rattle.bus_search.specs.Slots.{slotOf}
-use Rattle.bus_windows.specs.declared.Found.{Found}
+use Rattle.bus_windows.specs.declared.Standing.{Standing}
+use Rattle.bus_windows.specs.declared.Standing.the-variants.{Uncounted, Unequal, Equal}
 use Rattle.bus_windows.specs.Senders.{Sending, sendingOf, equalAt}
 
 -- slots that are written are as many as before
@@ -28,15 +29,16 @@ pub record Count (send : ℕ → Sending) (slot : Tuple → ℕ) (s n count : �
   pub plus-few : plusTo send slot s n ≤ n
   pub minus-few : minusTo send slot s n ≤ 3 * n
 
-abbrev pub Counted : Given → Tables → List ℕ → List ℕ → List ℕ → ℕ → Type 0
-Counted g t upper lower net n = (s : ℕ) → s < 1024 → Count (sendingOf g t) (slotOf upper lower) s n (getD net s 0)
+abbrev pub Counted : Given → Tables → List ℕ → List ℕ → List ℕ → List ℕ → ℕ → Type 0
+Counted g t upper lower marks net n = (s : ℕ) → s < 1024 → Count (sendingOf g t) (slotOf upper lower marks) s n (getD net s 0)
 
 -- the slots hold the tuple of sender j, if it sends one
-abbrev pub Holds : Given → Tables → List ℕ → List ℕ → ℕ → Type 0
-Holds g t upper lower j = (sendingOf g t j .plus + sendingOf g t j .minus ≡ 0 → ⊥) → slotOf upper lower (sendingOf g t j .tuple) < 1024
+abbrev pub InWindow : Given → Tables → List ℕ → List ℕ → List ℕ → ℕ → Type 0
+InWindow g t upper lower marks j =
+    (sendingOf g t j .plus + sendingOf g t j .minus ≡ 0 → ⊥) → slotOf upper lower marks (sendingOf g t j .tuple) < 1024
 
 -- what the window says of sender j
-pub record FoundAt (g : Given) (t : Tables) (upper lower : List ℕ) (j : ℕ) (r : Found) : Type 0 where
-  pub missing : r .absent ≡ true → Holds g t upper lower j → ⊥
-  pub differs : r .absent ≡ false → r .unequal ≡ true → equalAt g t j ≡ false
-  pub agrees : r .absent ≡ false → r .unequal ≡ false → equalAt g t j ≡ true
+abbrev pub StandsAt : Given → Tables → List ℕ → List ℕ → List ℕ → ℕ → Standing → Type 0
+StandsAt g t upper lower marks j Uncounted = InWindow g t upper lower marks j → ⊥
+StandsAt g t upper lower marks j Unequal = equalAt g t j ≡ false
+StandsAt g t upper lower marks j Equal = equalAt g t j ≡ true

@@ -1,5 +1,5 @@
 // The bus where pushes and pulls stand in different orders, or don't match: counted in windows, up to the first sender that is unequal.
-mod choose;
+mod fill;
 mod sender;
 mod window;
 
@@ -19,16 +19,17 @@ struct Tally {
     sent: Sent,
 }
 
-// What the counts say of a sender: that its tuple was not counted, or that it is unequal.
-struct Found {
-    absent: bool,
-    unequal: bool,
+// What a window says of a sender: that its tuple was not counted, or whether it is pushed as often as it is pulled.
+enum Standing {
+    Uncounted,
+    Unequal,
+    Equal,
 }
 
 // What a look at the senders says: the first whose tuple is unequal, or else where to look next.
-struct Looked {
-    at: usize,
-    unequal: bool,
+enum Looked {
+    Refused(usize),
+    Next(usize),
 }
 
 // The bus by counting: the first row that is unequal, in the table it stands in.
@@ -39,18 +40,19 @@ pub fn count_bus(program: &[u8], exec: &[u8], ext: &[u8]) -> Answer
     ensures { λ r. ⌜ r ≡ bus (given (now (program .entry)) []) (tables (now (exec .entry)) (now (ext .entry))) ⌝ }
 {
     let h = exec.len() / 32;
-    let j = first_unequal(program, exec, ext);
-    if j < h {
+    let r = first_unequal(program, exec, ext, 0, h);
+    if r < h {
         return Answer::Bus {
             part: 3,
-            row: j as u32,
+            row: r as u32,
         };
     }
-    let k = j - h;
-    if k < ext.len() / 120 {
+    let n = h + ext.len() / 120;
+    let j = first_unequal(program, exec, ext, h, n);
+    if j < n {
         return Answer::Bus {
             part: 4,
-            row: k as u32,
+            row: (j - h) as u32,
         };
     }
     Answer::Accepted

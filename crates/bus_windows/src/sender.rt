@@ -6,17 +6,17 @@ use bus_tuples::row_pushes;
 use bus_tuples::row_tuple;
 use bus_tuples::tuple_at;
 ghost use mathlib.Core.List.{[]};
-ghost use Prim.Native.Nat.{_+_, _/_, _<_};
+ghost use Prim.Native.Nat.{_/_, _<_};
 ghost use lib.ListN.{length};
 ghost use Rattle.rules.specs.Sizes.{given, tables};
-ghost use Rattle.bus_tuples.specs.Ready.{Listed, Flagged};
-ghost use Rattle.bus_windows.specs.Senders.{pushSent, pullSent, sendingOf, Reads};
+ghost use Rattle.bus_tuples.specs.Ready.{Listed, Flagged, Ready};
+ghost use Rattle.bus_windows.specs.Senders.{pushSent, pullSent, sendingOf, senders, Tallies};
 
 // Execution row r. Most rows push nothing: of those no tuple is made.
 fn pusher(program: &[u8], exec: &[u8], r: usize) -> Tally
     requires { ⌜ Listed (now program) (now exec) ⌝ }
     requires { ⌜ r < length (now exec) / 32 ⌝ }
-    ensures { λ x. ⌜ Reads x (pushSent (given (now (program .entry)) []) (tables (now (exec .entry)) []) r) ⌝ }
+    ensures { λ x. ⌜ Tallies x (pushSent (given (now (program .entry)) []) (tables (now (exec .entry)) []) r) ⌝ }
 {
     if !row_pushes(program, exec, r) {
         return Tally {
@@ -42,7 +42,7 @@ fn pusher(program: &[u8], exec: &[u8], r: usize) -> Tally
 fn puller(ext: &[u8], k: usize) -> Tally
     requires { ⌜ Flagged (now ext) ⌝ }
     requires { ⌜ k < length (now ext) / 120 ⌝ }
-    ensures { λ x. ⌜ Reads x (pullSent (tables [] (now (ext .entry))) k) ⌝ }
+    ensures { λ x. ⌜ Tallies x (pullSent (tables [] (now (ext .entry))) k) ⌝ }
 {
     let minus = pull_times(ext, k);
     let sent = tuple_at(ext, 120 * k);
@@ -53,11 +53,10 @@ fn puller(ext: &[u8], k: usize) -> Tally
     }
 }
 
-pub fn sender(program: &[u8], exec: &[u8], ext: &[u8], j: usize) -> Tally
-    requires { ⌜ Listed (now program) (now exec) ⌝ }
-    requires { ⌜ Flagged (now ext) ⌝ }
-    requires { ⌜ j < length (now exec) / 32 + length (now ext) / 120 ⌝ }
-    ensures { λ x. ⌜ Reads x (sendingOf (given (now (program .entry)) []) (tables (now (exec .entry)) (now (ext .entry))) j) ⌝ }
+pub(crate) fn sender(program: &[u8], exec: &[u8], ext: &[u8], j: usize) -> Tally
+    requires { ⌜ Ready (now program) (now exec) (now ext) ⌝ }
+    requires { ⌜ j < senders (tables (now exec) (now ext)) ⌝ }
+    ensures { λ x. ⌜ Tallies x (sendingOf (given (now (program .entry)) []) (tables (now (exec .entry)) (now (ext .entry))) j) ⌝ }
 {
     let h = exec.len() / 32;
     if j < h {

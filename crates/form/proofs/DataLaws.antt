@@ -84,10 +84,10 @@ module _ (d : ℕ) where
   reads op be n e = rw e at read-as
 
 -- the tests by which a word is known to name a call
-pub tested : (d : ℕ)
+pub call-tests : (d : ℕ)
     → leb 1 (d / 32) && leb (d / 32) (2 ^ 20) && (eqb (d % 32) 4 || eqb (d % 32) 6 || eqb (d % 32) 8 || eqb (d % 32) 10 || eqb (d % 32) 16 || eqb (d % 32) 18)
     ≡ isCall (readData d)
-tested d =
+call-tests d =
     same (leb 1 (d / 32) && leb (d / 32) (2 ^ 20)) (eqb (d % 32) 4) (eqb (d % 32) 6) (eqb (d % 32) 8) (eqb (d % 32) 10) (eqb (d % 32) 16) (eqb (d % 32) 18)
     ∙ ap isCall (sym (by-rest d))
   where

@@ -156,9 +156,9 @@ module _ (i : Instruction) where
       some (Well f) fits = (f, refl)
 
   -- the tests by which an instruction is known to be well-formed
-  pub tested : flagsFit i && (isAdd i || isMul i || isDeref i || isJump i || (opcode i 0 0 0 && isCall (readData (i .«data»)))) ≡ wellFormed i
+  pub form-tests : flagsFit i && (isAdd i || isMul i || isDeref i || isJump i || (opcode i 0 0 0 && isCall (readData (i .«data»)))) ≡ wellFormed i
   unfolding decodeOf
-  tested = same (flagsFit i) (isAdd i) (isMul i) (isDeref i) (isJump i) (opcode i 0 0 0) (readData (i .«data»))
+  form-tests = same (flagsFit i) (isAdd i) (isMul i) (isDeref i) (isJump i) (opcode i 0 0 0) (readData (i .«data»))
     where
       same : (fit a m d j o : Bool) (c : Call)
           → fit && (a || m || d || j || (o && isCall c))

@@ -38,7 +38,7 @@ pub(crate) fn is_data(data: u32) -> bool
         & ((rest == 4) | (rest == 6) | (rest == 8) | (rest == 10) | (rest == 16) | (rest == 18))
 }
 
-fn op_of(rest: u32) -> Op
+fn op_by(rest: u32) -> Op
     ensures { λ r. ⌜ r ≡ opBy rest ⌝ }
 {
     if rest < 8 {
@@ -51,12 +51,12 @@ fn op_of(rest: u32) -> Op
 }
 
 // The kind of an instruction whose DATA is known to name a call.
-pub(crate) fn extension_of(data: u32) -> Kind
+pub(crate) fn extension_by(data: u32) -> Kind
     ensures { λ r. ⌜ r ≡ extensionBy «data» ⌝ }
 {
     let rest = data % 32;
     Kind::Extension {
-        op: op_of(rest),
+        op: op_by(rest),
         be: rest / 2 % 2 == 1,
         n: data / 32,
     }

@@ -5,7 +5,7 @@ use crate::Instruction;
 use crate::Kind;
 use crate::Mode;
 use crate::Operand;
-use crate::data::extension_of;
+use crate::data::extension_by;
 ghost use mathlib.Core.Path.{_≡_};
 ghost use mathlib.Core.Bool.{true};
 ghost use Rattle.form.specs.Form.{operandOf, wellFormed, decodeOf};
@@ -33,7 +33,7 @@ fn operand_of(flag: u32, fp: u32, word: u32) -> Operand
 }
 
 // By the opcode words alone.
-fn kind_of(i: Instruction) -> Kind
+fn kind_by(i: Instruction) -> Kind
     ensures { λ r. ⌜ r ≡ kindBy i ⌝ }
 {
     if i.aux == 1 {
@@ -48,14 +48,14 @@ fn kind_of(i: Instruction) -> Kind
     if i.jump == 1 {
         return Kind::Jump;
     }
-    extension_of(i.data)
+    extension_by(i.data)
 }
 
 pub fn decode_known(i: Instruction) -> Decoded
     requires { ⌜ wellFormed i ≡ true ⌝ }
     ensures { λ r. ⌜ r ≡ decodeOf i ⌝ }
 {
-    let kind = kind_of(i);
+    let kind = kind_by(i);
     let a = operand_of(i.fa, i.fpab, i.a);
     let b = operand_of(i.fb, i.fpab, i.b);
     let c = operand_of(i.fc, i.fpc, i.c);

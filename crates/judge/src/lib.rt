@@ -8,15 +8,6 @@ use stage::words_answer;
 ghost use mathlib.Core.Path.{_≡_};
 ghost use Rattle.judge_spec.specs.Judged.{judgeOf};
 
-// What one walk over the program and each table found: the first malformed instruction, the first execution row and the first extension row that
-// fail, and the extension row up to which the pulls are just what was pushed.
-struct Seen {
-    malformed: usize,
-    exec: usize,
-    ext: usize,
-    pulled: usize,
-}
-
 // The judge. SIZE comes first; what is left is words_answer's.
 pub fn judge(program: &[u8], memory: &[u8], pc: u64, fp: u64, exec: &[u8], ext: &[u8]) -> Answer
     ensures { λ r. ⌜ r ≡ judgeOf (record {

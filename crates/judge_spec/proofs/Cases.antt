@@ -1,25 +1,15 @@
 -- A stage of the judge by its cases: what is shown of the next stage's answer and of the refusal holds of the stage's answer.
-use mathlib.Core.Path.{_≡_, refl, sym, subst}
-use mathlib.Core.Bool.{Bool, true, false, _&&_, cond}
+use mathlib.Core.Path.{_≡_, refl}
+use mathlib.Core.Bool.{Bool, true, false, cond}
 use Prim.Native.Nat.{ℕ, _<_}
 use native.Mathlib.Omega.{arith}
 use lib.Dec.{T, ltb}
 use borrow.Author.Tests.{ltb-true, ltb-false, le-ltb, lt-ltb}
+pub use Rattle.word.proofs.Tests.{is-true, from-true, both}
 use Rattle.answer.specs.declared.Answer.{Answer}
 use Rattle.judge_spec.specs.First.{first}
 use Rattle.judge_spec.proofs.Stages.{stage}
 use Rattle.judge_spec.proofs.FirstLaws.{first-fails, first-before, first-past, first-none, first-found}
-
-pub is-true : (b : Bool) → T b → b ≡ true
-is-true true t = refl
-is-true false t = absurd t
-
-pub from-true : (b : Bool) → b ≡ true → T b
-from-true b e = subst T (sym e) tt
-
-pub both : (a b : Bool) → T (a && b) → T a × T b
-both true b t = (tt, t)
-both false b t = absurd t
 
 pub chosen : (b : Bool) (a c : Answer) (Holds : Answer → Type 0) → (T b → Holds a) → (b ≡ false → Holds c) → Holds (cond b a c)
 chosen true a c Holds f g = f tt

@@ -6,11 +6,21 @@ use mathlib.Core.List.{List}
 use Prim.Native.Nat.{ℕ, _+_, _*_, _/_, _≤_, _<_, zero-le}
 use native.Mathlib.Nat.{mul-zero}
 use native.Mathlib.Omega.{arith}
+use lib.Dec.{eqb}
 use lib.ListN.{length}
-use borrow.Author.Tests.{eq-eqb, ne-eqb, lt-ltb, le-ltb}
+use borrow.Author.Tests.{eqb-true, eq-eqb, ne-eqb, ltb-true, lt-ltb, le-ltb}
+use Rattle.form.specs.declared.Instruction.{Instruction}
+use Rattle.rows.specs.declared.Exec.{Exec}
 use Rattle.rules.specs.Given.{zero?}
-use Rattle.judge_spec.specs.First.{first}
+use Rattle.rules.specs.Execution.{execRules}
+use Rattle.rules.specs.Sizes.{given}
+use Rattle.judge_spec.specs.First.{first, failing}
 use Rattle.judge_spec.specs.Judged.{isWord}
+use Rattle.judge_spec.proofs.Cases.{is-true}
+use Rattle.judge_spec.proofs.FirstLaws.{first-bound, first-past}
+use Rattle.judge_spec.proofs.RuleLaws.{failing-holds, exec-numbered}
+use Rattle.inputs.specs.Words.{AllWords}
+use Rattle.inputs.proofs.Formed.{seen-words}
 use Rattle.inputs.proofs.Eights.{Tells, none-yet, joined, all-told}
 use Rattle.inputs.proofs.Walks.{Walk, begins, goes-past, finds, finds-none, found-one, found-none}
 use Rattle.judge_walks.specs.Walks.{Tested}
@@ -45,3 +55,22 @@ module _ (failing : ℕ → ℕ) (n : ℕ) (bytes : List ℕ) (wide : ℕ) where
           rule-is = rw (le-ltb r n h);
           words-is = all-told (isWord bytes) words (length bytes / 4) (rw (← last, whole) at (at .told)) ∙ found-none (at .rows) h _;
         }
+
+-- where a walk saw that all words are below p, they are
+pub tested-words : {failing : ℕ → ℕ} {n : ℕ} {bytes : List ℕ} {at rule : ℕ} {words : Bool} → Tested failing n bytes at rule words → words ≡ true → AllWords bytes
+tested-words {failing} {n} {bytes} {at} {rule} {words} tested = seen-words (eqb (first (λ r. zero? (failing r)) 0 n) n) words bytes (tested .words-is)
+
+-- what a walk that found no row leaves
+module _ {failing : ℕ → ℕ} {n : ℕ} {bytes : List ℕ} {at rule : ℕ} {words : Bool} (tested : Tested failing n bytes at rule words) (past : n ≤ at) where
+  pub at-end : at ≡ n
+  at-end = omega (arith, tested .at-is, first-bound (λ s. zero? (failing s)) n)
+
+  pub none-fails : (r : ℕ) → r < n → failing r ≡ 0
+  none-fails r h = eqb-true (failing r) 0 (first-past (λ s. zero? (failing s)) n (omega (arith, tested .at-is)) r h)
+
+-- a row whose rules hold has a pc in the program
+pub pc-inside : (program memory : List ℕ) (x y : Exec) (i : Instruction) → failing (execRules (given program memory) x y i) ≡ 0 → x .pc < length program / 48
+unfolding execRules
+pc-inside program memory x y i e =
+    let g = given program memory in
+    ltb-true (x .pc) (length program / 48) (is-true _ (failing-holds (execRules g x y i) (exec-numbered g x y i) e .0))

@@ -14,8 +14,8 @@ use Rattle.label.specs.Reader.{form}
 use Rattle.label.specs.Writer.{tailOf}
 use Rattle.label.proofs.Order.{by-order}
 use Rattle.label.proofs.Flat.{headWord, mWord, nWord, flat}
-use Rattle.label.proofs.Range.{m-low, m-high}
-use Rattle.label.proofs.Digits.{two-digits}
+use Rattle.label.proofs.Range.{m-low, m-high, n-high}
+use Rattle.label.proofs.Digits.{one-digit, two-digits, three-digits}
 
 past : (p q : List ℕ) (i k : ℕ) → length p + k ≡ i → getD (p ++ q) i 0 ≡ getD q k 0
 past p q i k e = rw (← e) (getD-append-add p q k 0)
@@ -46,12 +46,13 @@ pad [] (suc k) = refl
 pad (x ∷ l) zero = refl
 pad (x ∷ l) (suc k) = pad l k
 
-tail-at : (n k : ℕ) → getD (decimal n ++ (10 ∷ [])) k 0 ≡ getD (tailOf n) k 0
-unfolding decimal tailOf
-tail-at n k =
-    by-order n 10 (λ a. rw (lt-ltb n 10 a) (pad (digit n ∷ 10 ∷ []) k ∙ pad (digit n ∷ 10 ∷ 0 ∷ []) k))
-    (λ a. by-order n 100 (λ b. rw (le-ltb n 10 a, lt-ltb n 100 b) (pad (digit (n / 10) ∷ digit (n % 10) ∷ 10 ∷ []) k))
-    (λ b. rw (le-ltb n 10 a, le-ltb n 100 b)))
+tail-at : (n k : ℕ) → n ≤ 124 → getD (decimal n ++ (10 ∷ [])) k 0 ≡ getD (tailOf n) k 0
+unfolding tailOf
+tail-at n k h =
+    by-order n 10 (λ a. rw (one-digit n a, lt-ltb n 10 a) (pad (digit n ∷ 10 ∷ []) k ∙ pad (digit n ∷ 10 ∷ 0 ∷ []) k))
+    (λ a. by-order n 100
+    (λ b. rw (two-digits n a b, le-ltb n 10 a, lt-ltb n 100 b) (pad (digit (n / 10) ∷ digit (n % 10) ∷ 10 ∷ []) k))
+    (λ b. rw (three-digits n b (omega arith), le-ltb n 10 a, le-ltb n 100 b)))
 
 module _ (r : Recipe) (h : ranged r ≡ true) (i : ℕ) where
   -- what stands after each part
@@ -124,7 +125,7 @@ module _ (r : Recipe) (h : ranged r ≡ true) (i : ℕ) where
   unfolding fromN
   at-tail a =
       after-m (omega arith)
-      ∙ (past nWord fromN (i - 30) (i - 33) (omega arith) ∙ tail-at (r .n) (i - 33))
+      ∙ (past nWord fromN (i - 30) (i - 33) (omega arith) ∙ tail-at (r .n) (i - 33) (n-high r h))
 
 lengths : (a b c d e f g : List ℕ)
     → length (a ++ (b ++ (c ++ (d ++ (e ++ (f ++ g)))))) ≡ length a + (length b + (length c + (length d + (length e + (length f + length g)))))
@@ -138,14 +139,11 @@ module _ (r : Recipe) (h : ranged r ≡ true) where
       ∙ (lengths headWord (hexDigits 16 (r .seed)) mWord (decimal (r .m)) nWord (decimal (r .n)) (10 ∷ [])
       ∙ omega (arith, hex-length 16 (r .seed), ap length (two-digits (r .m) (m-low r h) (omega (arith, m-high r h)))))
 
-  pub one-digit : r .n < 10 → length (labelOf r) ≡ 35
-  unfolding decimal
-  one-digit a = long ∙ rw (lt-ltb (r .n) 10 a)
+  pub long-35 : r .n < 10 → length (labelOf r) ≡ 35
+  long-35 a = long ∙ rw (one-digit (r .n) a)
 
-  pub two-digit : 10 ≤ r .n → r .n < 100 → length (labelOf r) ≡ 36
-  unfolding decimal
-  two-digit a b = long ∙ rw (le-ltb (r .n) 10 a, lt-ltb (r .n) 100 b)
+  pub long-36 : 10 ≤ r .n → r .n < 100 → length (labelOf r) ≡ 36
+  long-36 a b = long ∙ rw (two-digits (r .n) a b)
 
-  pub three-digit : 100 ≤ r .n → length (labelOf r) ≡ 37
-  unfolding decimal
-  three-digit a = long ∙ rw (le-ltb (r .n) 10 (omega arith), le-ltb (r .n) 100 a)
+  pub long-37 : 100 ≤ r .n → length (labelOf r) ≡ 37
+  long-37 a = long ∙ rw (three-digits (r .n) a (omega (arith, n-high r h)))

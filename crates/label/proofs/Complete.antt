@@ -9,7 +9,7 @@ use borrow.Author.Tests.{lt-ltb, le-ltb}
 use Rattle.label.specs.Label.{InRange, labelOf, hexDigit, hexDigits, decimal, digit}
 use Rattle.label.specs.declared.Recipe.{Recipe}
 use Rattle.label.specs.declared.reader.Step.the-variants.{On}
-use Rattle.label.specs.Reader.{decimalValue, next, nextFixed, nextSeed, nextTens, nextUnits, nextN}
+use Rattle.label.specs.Reader.{decimalValue, nextStep, nextFixed, nextSeed, nextTens, nextUnits, nextN}
 use Rattle.label.proofs.Order.{by-order}
 use Rattle.label.proofs.Moved.{state}
 use Rattle.label.proofs.Leads.{Leads, leads-on}
@@ -56,7 +56,7 @@ module _ (r : Recipe) where
 
   m-goes : (seed m : ℕ) (v : List ℕ) → 10 ≤ m → m ≤ 29
       → Leads (state 30 seed m 0) v r → Leads (state 28 seed 0 0) (decimal m ++ v) r
-  unfolding next
+  unfolding nextStep
   m-goes seed m v a b l =
       rw (two-digits m a (omega arith))
       (leads-on (state 28 seed 0 0) (digit (m / 10)) (digit (m % 10) ∷ v) r (state 29 seed (m / 10) 0)
@@ -67,7 +67,7 @@ module _ (r : Recipe) where
 
   n-more : (seed m n : ℕ) (v : List ℕ) → 1 ≤ n → n ≤ 124
       → Leads (state 33 seed m n) v r → Leads (state 33 seed m (n / 10)) (digit (n % 10) ∷ v) r
-  unfolding next
+  unfolding nextStep
   n-more seed m n v a b l =
       leads-on (state 33 seed m (n / 10)) (digit (n % 10)) v r (state 33 seed m (10 * (n / 10) + n % 10))
       (n-step seed m (n / 10) (n % 10) (omega arith) (omega arith) (omega arith))
@@ -89,19 +89,19 @@ module _ (r : Recipe) where
 
   -- the fixed bytes are those of the form
   heads : (v : List ℕ) → Leads (state 9 0 0 0) v r → Leads (state 0 0 0 0) (headWord ++ v) r
-  unfolding Leads next nextFixed
+  unfolding Leads nextStep nextFixed
   heads v l = l
 
   m-heads : (seed : ℕ) (v : List ℕ) → Leads (state 28 seed 0 0) v r → Leads (state 25 seed 0 0) (mWord ++ v) r
-  unfolding Leads next nextFixed
+  unfolding Leads nextStep nextFixed
   m-heads seed v l = l
 
   n-heads : (seed m : ℕ) (v : List ℕ) → Leads (state 33 seed m 0) v r → Leads (state 30 seed m 0) (nWord ++ v) r
-  unfolding Leads next nextFixed
+  unfolding Leads nextStep nextFixed
   n-heads seed m v l = l
 
   n-ends : (seed m n : ℕ) → 1 ≤ n → record { seed = seed; m = m; n = n } ≡ r → Leads (state 33 seed m n) (10 ∷ []) r
-  unfolding next Leads
+  unfolding nextStep Leads
   n-ends seed m n h e = leads-on (state 33 seed m n) 10 [] r (state 34 seed m n) (n-over seed m n h) (refl, e)
 
 -- the parts of a label, in their order

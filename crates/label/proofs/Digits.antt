@@ -6,7 +6,7 @@ use mathlib.Core.Path.{_≡_, ap}
 use native.Mathlib.Omega.{arith}
 use lib.Dec.{leb, ltb}
 use borrow.Author.Tests.{lt-ltb, le-ltb, le-leb, lt-leb}
-use Rattle.label.specs.Label.{hexDigit, hexDigits, decimal, digit}
+use Rattle.label.specs.Label.{hexDigit, hexDigits, digit, decimalIn, decimal}
 use Rattle.label.specs.Reader.{hexValue, decimalValue}
 use Rattle.label.proofs.Order.{by-order}
 
@@ -91,24 +91,29 @@ pub soFar-some : (x : ℕ) → 1 ≤ x → soFar x ≡ decimal x
 unfolding soFar
 soFar-some x h = rw (le-ltb x 1 h)
 
+-- numbers of one, two and three digits
+pub one-digit : (x : ℕ) → x < 10 → decimal x ≡ digit x ∷ []
+unfolding decimalIn
+one-digit x h = rw (lt-ltb x 10 h)
+
 pub two-digits : (x : ℕ) → 10 ≤ x → x < 100 → decimal x ≡ digit (x / 10) ∷ digit (x % 10) ∷ []
-unfolding decimal
-two-digits x l u = rw (le-ltb x 10 l, lt-ltb x 100 u)
+unfolding decimalIn
+two-digits x l u = rw (le-ltb x 10 l, lt-ltb (x / 10) 10 (omega arith))
+
+pub three-digits : (x : ℕ) → 100 ≤ x → x < 1000 → decimal x ≡ digit (x / 100) ∷ digit (x / 10 % 10) ∷ digit (x % 10) ∷ []
+unfolding decimalIn
+three-digits x l u =
+    let e : x / 100 ≡ x / 10 / 10 = omega arith in
+    rw (le-ltb x 10 (omega arith), le-ltb (x / 10) 10 (omega arith), lt-ltb (x / 10 / 10) 10 (omega arith), e)
 
 -- a number's decimal is that of its tens, then its last digit
 pub decimal-last : (y : ℕ) → 1 ≤ y → y < 125 → soFar y ≡ soFar (y / 10) ++ (digit (y % 10) ∷ [])
-unfolding soFar decimal
+unfolding soFar
 decimal-last y l u =
     by-order y 10
-    (λ a. rw (le-ltb y 1 l, lt-ltb y 10 a, lt-ltb (y / 10) 1 (omega arith)) (ap (λ (z : ℕ). digit z ∷ []) (omega arith)))
+    (λ a. rw (le-ltb y 1 l, one-digit y a, lt-ltb (y / 10) 1 (omega arith)) (ap (λ (z : ℕ). digit z ∷ []) (omega arith)))
     (λ a. by-order y 100
-    (λ b. rw (le-ltb y 1 l, le-ltb y 10 a, lt-ltb y 100 b, le-ltb (y / 10) 1 (omega arith), lt-ltb (y / 10) 10 (omega arith)))
-    (λ b. rw (
-      le-ltb y 1 l,
-      le-ltb y 10 a,
-      le-ltb y 100 b,
-      le-ltb (y / 10) 1 (omega arith),
-      le-ltb (y / 10) 10 (omega arith),
-      lt-ltb (y / 10) 100 (omega arith),
-    )
-    (ap (λ (z : ℕ). digit z ∷ digit (y / 10 % 10) ∷ digit (y % 10) ∷ []) (omega arith))))
+    (λ b. rw (le-ltb y 1 l, two-digits y a b, le-ltb (y / 10) 1 (omega arith), one-digit (y / 10) (omega arith)))
+    (λ b.
+    let e : y / 100 ≡ y / 10 / 10 = omega arith in
+    rw (le-ltb y 1 l, three-digits y b (omega arith), le-ltb (y / 10) 1 (omega arith), two-digits (y / 10) (omega arith) (omega arith), e)))

@@ -8,7 +8,7 @@ use lib.Pow.{pow-mono, pow-add}
 use borrow.Author.Tests.{lt-ltb, le-ltb, ltb-false}
 use Rattle.label.specs.declared.reader.Progress.{Progress}
 use Rattle.label.specs.declared.reader.Step.the-variants.{On}
-use Rattle.label.specs.Reader.{Fits, next}
+use Rattle.label.specs.Reader.{Fits, nextStep}
 use Rattle.label.proofs.Moved.{state, Moved, moved, fixed-below, fixed, seed, tens, units, digit, ended}
 
 -- while seed's digits are read there is room for one more
@@ -67,7 +67,7 @@ go-on s b q f (digit lo h d l u) = record { at = f .at; seed = f .seed; m = f .m
 go-on s b q f (ended lo h l e) =
     record { at = omega arith; seed = seed-later (s .at) (f .seed); m = m-later (s .at) (f .m); n = f .n }
 
-pub fits-next : (s : Progress) (b : ℕ) (q : Progress) → Fits s → next s b ≡ On q → Fits q
+pub fits-next : (s : Progress) (b : ℕ) (q : Progress) → Fits s → nextStep s b ≡ On q → Fits q
 fits-next s b q f e = go-on s b q f (moved s b q e)
 
 -- each step moves the place on or makes n larger
@@ -79,7 +79,7 @@ farther s b q (units l h d) = omega arith
 farther s b q (digit lo h d l u) = omega arith
 farther s b q (ended lo h l e) = omega arith
 
-pub far : (s : Progress) (b : ℕ) (q : Progress) → next s b ≡ On q → s .at + s .n < q .at + q .n
+pub far : (s : Progress) (b : ℕ) (q : Progress) → nextStep s b ≡ On q → s .at + s .n < q .at + q .n
 far s b q e = farther s b q (moved s b q e)
 
 pub fits-start : Fits (state 0 0 0 0)

@@ -7,14 +7,14 @@ use lib.ListN.{length, getD, drop, drop-of-length-le}
 use lib.Seq.{drop-cons}
 use Rattle.label.specs.declared.reader.Progress.{Progress}
 use Rattle.label.specs.declared.reader.Step.the-variants.{On, Stop}
-use Rattle.label.specs.Reader.{next, readFrom, refusedAt, endedAt}
+use Rattle.label.specs.Reader.{nextStep, readFrom, refusedAt, endedAt}
 
 module _ (text : List ℕ) (s : Progress) (i : ℕ) where
-  pub stops : i < length text → next s (getD text i 0) ≡ Stop → readFrom s i (drop i text) ≡ refusedAt i
+  pub stops : i < length text → nextStep s (getD text i 0) ≡ Stop → readFrom s i (drop i text) ≡ refusedAt i
   unfolding readFrom
   stops h e = rw (drop-cons text i 0 h, e)
 
-  pub goes : (q : Progress) → i < length text → next s (getD text i 0) ≡ On q
+  pub goes : (q : Progress) → i < length text → nextStep s (getD text i 0) ≡ On q
       → readFrom s i (drop i text) ≡ readFrom q (i + 1) (drop (i + 1) text)
   unfolding readFrom
   goes q h e = rw (drop-cons text i 0 h, e, add-one i)

@@ -13,12 +13,12 @@ use Rattle.label.specs.declared.Recipe.{Recipe}
 use Rattle.label.specs.declared.Reading.{Reading}
 use Rattle.label.specs.declared.Written.{Written}
 use Rattle.label.specs.Writing.{written, buffered}
-use Rattle.label.specs.Label.{InRange, labelOf, hexDigits, decimal}
+use Rattle.label.specs.Label.{InRange, labelOf, hexDigits, decimalIn}
 use Rattle.label.specs.Reading.{Place, Reads, shared}
 use Rattle.label.specs.Reader.{
   hexValue,
   decimalValue,
-  next,
+  nextStep,
   nextFixed,
   nextSeed,
   nextTens,
@@ -131,7 +131,7 @@ writing-determined r buffer = equations (written r (length buffer)) (buffered r 
 
 -- document 01's label with n = 125: 35 bytes are shared with n = 12 and n = 120 to 124
 pub example-refused : (R : Reading) → Reads (labelOf (record { seed = 0x12fffffff; m = 10; n = 125 })) R → R ≡ refusedAt 35
-unfolding labelOf hexDigits decimal readFrom next nextFixed nextSeed nextTens nextUnits nextN hexValue decimalValue
+unfolding labelOf hexDigits decimalIn readFrom nextStep nextFixed nextSeed nextTens nextUnits nextN hexValue decimalValue
 example-refused R p =
     reading-determined (labelOf (record { seed = 0x12fffffff; m = 10; n = 125 })) R (refusedAt 35) p
     (reading-holds (labelOf (record { seed = 0x12fffffff; m = 10; n = 125 })))

@@ -9,7 +9,7 @@ use Rattle.label.specs.declared.Recipe.{Recipe}
 use Rattle.label.specs.declared.reader.Progress.{Progress}
 use Rattle.label.specs.declared.reader.Step.{Step}
 use Rattle.label.specs.declared.reader.Step.the-variants.{On, Stop}
-use Rattle.label.specs.Reader.{hexValue, decimalValue, form, next, nextFixed, nextSeed, nextTens, nextUnits, nextN}
+use Rattle.label.specs.Reader.{hexValue, decimalValue, form, nextStep, nextFixed, nextSeed, nextTens, nextUnits, nextN}
 use Rattle.label.proofs.Moved.{state}
 use Rattle.label.proofs.Order.{by-order}
 
@@ -22,18 +22,18 @@ By f Stop = ⊥
 
 unfoldable pub Leads : Progress → List ℕ → Recipe → Type 0
 Leads s [] r = (s .at ≡ 34) × (recipeOf s ≡ r)
-Leads s (b ∷ w) r = By (λ q. Leads q w r) (next s b)
+Leads s (b ∷ w) r = By (λ q. Leads q w r) (nextStep s b)
 
 module _ (s : Progress) (b : ℕ) (w : List ℕ) (r : Recipe) where
-  pub leads-on : (q : Progress) → next s b ≡ On q → Leads q w r → Leads s (b ∷ w) r
+  pub leads-on : (q : Progress) → nextStep s b ≡ On q → Leads q w r → Leads s (b ∷ w) r
   unfolding Leads
   leads-on q e h = subst (By (λ q. Leads q w r)) (sym e) h
 
-  pub leads-back : (q : Progress) → next s b ≡ On q → Leads s (b ∷ w) r → Leads q w r
+  pub leads-back : (q : Progress) → nextStep s b ≡ On q → Leads s (b ∷ w) r → Leads q w r
   unfolding Leads
   leads-back q e h = subst (By (λ q. Leads q w r)) e h
 
-  pub leads-stop : next s b ≡ Stop → Leads s (b ∷ w) r → ⊥
+  pub leads-stop : nextStep s b ≡ Stop → Leads s (b ∷ w) r → ⊥
   unfolding Leads
   leads-stop e h = subst (By (λ q. Leads q w r)) e h
 
@@ -41,7 +41,7 @@ module _ (s : Progress) (b : ℕ) (w : List ℕ) (r : Recipe) where
 abbrev pub Live : Progress → Type 0
 Live s = (w : List ℕ) × (r : Recipe) × Leads s w r
 
-after : (s : Progress) (b : ℕ) (q : Progress) → next s b ≡ On q → Live q → Live s
+after : (s : Progress) (b : ℕ) (q : Progress) → nextStep s b ≡ On q → Live q → Live s
 after s b q e l = (b ∷ l .0, l .1, leads-on s b (l .0) (l .1) q e (l .2))
 
 done : (seed m n : ℕ) → Live (state 34 seed m n)
@@ -50,21 +50,21 @@ done seed m n = ([], record { seed = seed; m = m; n = n }, (refl, refl))
 
 -- an n that has a digit ends in LF; one that has none is 1
 counted : (seed m n : ℕ) → 1 ≤ n → Live (state 33 seed m n)
-unfolding next nextN decimalValue
+unfolding nextStep nextN decimalValue
 counted seed m n h =
     after (state 33 seed m n) 10 (state 34 seed m n) (rw (le-ltb n 1 h)) (done seed m n)
 
 counting : (seed m n : ℕ) → Live (state 33 seed m n)
-unfolding next nextN decimalValue
+unfolding nextStep nextN decimalValue
 counting seed m zero = after (state 33 seed m 0) 49 (state 33 seed m 1) refl (counted seed m 1 (omega arith))
 counting seed m (suc n) = counted seed m (suc n) (omega arith)
 
 -- a step to the next place
 abbrev Goes : Progress → Type 0
-Goes s = (b : ℕ) × (q : Progress) × (next s b ≡ On q) × (q .at ≡ s .at + 1)
+Goes s = (b : ℕ) × (q : Progress) × (nextStep s b ≡ On q) × (q .at ≡ s .at + 1)
 
 module _ (s : Progress) where
-  goes-fixed : ((b : ℕ) → next s b ≡ nextFixed s b) → Goes s
+  goes-fixed : ((b : ℕ) → nextStep s b ≡ nextFixed s b) → Goes s
   unfolding nextFixed
   goes-fixed e = (
     getD form (s .at) 0,
@@ -75,7 +75,7 @@ module _ (s : Progress) where
 
   -- before n every place has a byte that goes on: 0 for a digit, 1 for m's first
   goes : s .at < 33 → Goes s
-  unfolding next nextSeed nextTens nextUnits hexValue decimalValue
+  unfolding nextStep nextSeed nextTens nextUnits hexValue decimalValue
   goes h =
       by-order (s .at) 9 (λ a. goes-fixed (λ b. rw (lt-ltb (s .at) 9 a)))
       (λ a. by-order (s .at) 25
@@ -114,8 +114,8 @@ live s h =
 pub leads-one : (s : Progress) (w : List ℕ) (r r′ : Recipe) → Leads s w r → Leads s w r′ → r ≡ r′
 unfolding Leads
 leads-one s [] r r′ l l′ = sym (l .1) ∙ l′ .1
-leads-one s (b ∷ w) r r′ l l′ = go (next s b) refl (λ q. leads-one q w r r′)
+leads-one s (b ∷ w) r r′ l l′ = go (nextStep s b) refl (λ q. leads-one q w r r′)
   where
-    go : (x : Step) → next s b ≡ x → ((q : Progress) → Leads q w r → Leads q w r′ → r ≡ r′) → r ≡ r′
+    go : (x : Step) → nextStep s b ≡ x → ((q : Progress) → Leads q w r → Leads q w r′ → r ≡ r′) → r ≡ r′
     go (On q) e f = f q (leads-back s b w r q e l) (leads-back s b w r′ q e l′)
     go Stop e f = absurd (leads-stop s b w r e l)

@@ -14,7 +14,7 @@ use Rattle.label.specs.Reader.{
   hexValue,
   decimalValue,
   form,
-  next,
+  nextStep,
   nextFixed,
   nextSeed,
   nextTens,
@@ -96,8 +96,8 @@ module _ (s : Progress) (b : ℕ) (q : Progress) where
       (λ _. by-test _ (λ _. never)
       (λ f. by-test _ (λ t. to (ended l h (ltb-false _ _ f) (eqb-true _ _ t))) (λ _. never)))
 
-  pub moved : next s b ≡ On q → Moved s b q
-  unfolding next
+  pub moved : nextStep s b ≡ On q → Moved s b q
+  unfolding nextStep
   moved =
       by-test _ (λ c. in-fixed (rw c))
       (λ c. by-test _ (λ d. in-seed (ltb-false _ _ c) (ltb-true _ _ d))

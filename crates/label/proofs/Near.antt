@@ -14,7 +14,7 @@ use Rattle.label.specs.declared.reader.Progress.{Progress}
 use Rattle.label.specs.declared.reader.Step.{Step}
 use Rattle.label.specs.declared.reader.Step.the-variants.{On, Stop}
 use Rattle.label.specs.Reading.{shared}
-use Rattle.label.specs.Reader.{Fits, next, readFrom, refusedAt, endedAt, onward}
+use Rattle.label.specs.Reader.{Fits, nextStep, readFrom, refusedAt, endedAt, onward}
 use Rattle.label.proofs.Leads.{Leads, live, recipeOf, leads-on, leads-back, leads-stop}
 use Rattle.label.proofs.Order.{by-order}
 use Rattle.label.proofs.Fits.{fits-next}
@@ -62,7 +62,7 @@ at-end s i h =
     (λ a. inl (record { recipe = recipeOf s; leads = (omega arith, refl); is = rw (le-ltb (s .at) 34 a) }))
 
 -- a text that starts with another byte shares nothing, where this byte stops
-stopped : (s : Progress) (b : ℕ) (t : List ℕ) → next s b ≡ Stop
+stopped : (s : Progress) (b : ℕ) (t : List ℕ) → nextStep s b ≡ Stop
     → (w : List ℕ) (r : Recipe) → Leads s w r → shared w (b ∷ t) ≡ 0
 unfolding shared
 stopped s b t e [] r l = refl
@@ -73,7 +73,7 @@ stopped s b t e (x ∷ w) r l = go (eqb x b) refl
     go false q = rw q
 
 -- where it goes on, the rest decides
-onto : (s : Progress) (b : ℕ) (q : Progress) (t : List ℕ) (k : ℕ) → next s b ≡ On q
+onto : (s : Progress) (b : ℕ) (q : Progress) (t : List ℕ) (k : ℕ) → nextStep s b ≡ On q
     → ((w : List ℕ) (r : Recipe) → Leads q w r → shared w t ≤ k)
     → (w : List ℕ) (r : Recipe) → Leads s w r → shared w (b ∷ t) ≤ suc k
 unfolding shared
@@ -85,7 +85,7 @@ onto s b q t k e f (x ∷ w) r l = go (eqb x b) refl
         rw p (omega (arith, f w r (leads-back s b w r q e (subst (λ (y : ℕ). Leads s (y ∷ w) r) (eqb-true x b p) l))))
     go false p = rw p (omega arith)
 
-past : (s : Progress) (i : ℕ) (b : ℕ) (q : Progress) (t : List ℕ) (R : Reading) → next s b ≡ On q
+past : (s : Progress) (i : ℕ) (b : ℕ) (q : Progress) (t : List ℕ) (R : Reading) → nextStep s b ≡ On q
     → Outcome q (suc i) t R → Outcome s i (b ∷ t) R
 past s i b q t R e (inl y) = inl (record { recipe = y .recipe; leads = leads-on s b t (y .recipe) q e (y .leads); is = y .is })
 past s i b q t R e (inr n) =
@@ -102,10 +102,10 @@ past s i b q t R e (inr n) =
 pub near : (t : List ℕ) (s : Progress) (i : ℕ) → Fits s → Outcome s i t (readFrom s i t)
 unfolding readFrom
 near [] s i h = at-end s i (h .at)
-near (b ∷ t) s i h = go (next s b) refl (λ q a. near t q (suc i) a)
+near (b ∷ t) s i h = go (nextStep s b) refl (λ q a. near t q (suc i) a)
   where
-    go : (x : Step) → next s b ≡ x → ((q : Progress) → Fits q → Outcome q (suc i) t (readFrom q (suc i) t))
-        → Outcome s i (b ∷ t) (onward (λ q. readFrom q (suc i) t) (refusedAt i) (next s b))
+    go : (x : Step) → nextStep s b ≡ x → ((q : Progress) → Fits q → Outcome q (suc i) t (readFrom q (suc i) t))
+        → Outcome s i (b ∷ t) (onward (λ q. readFrom q (suc i) t) (refusedAt i) (nextStep s b))
     go (On q) e f = rw e (past s i b q t (readFrom q (suc i) t) e (f q (fits-next s b q h e)))
     go Stop e f =
         rw e

@@ -12,7 +12,7 @@ use Rattle.label.specs.declared.Recipe.{Recipe}
 use Rattle.label.specs.declared.reader.Progress.{Progress}
 use Rattle.label.specs.declared.reader.Step.{Step}
 use Rattle.label.specs.declared.reader.Step.the-variants.{On, Stop}
-use Rattle.label.specs.Reader.{hexValue, decimalValue, form, next, nextSeed, nextN}
+use Rattle.label.specs.Reader.{hexValue, decimalValue, form, nextStep, nextSeed, nextN}
 use Rattle.label.proofs.Moved.{
   state,
   isFixed,
@@ -32,13 +32,13 @@ use Rattle.label.proofs.Moved.{
 }
 use Rattle.label.proofs.Leads.{Leads, leads-back, leads-stop}
 
-pub seed-place : (s : Progress) (b : ℕ) → 9 ≤ s .at → s .at < 25 → next s b ≡ nextSeed s b
-unfolding next
+pub seed-place : (s : Progress) (b : ℕ) → 9 ≤ s .at → s .at < 25 → nextStep s b ≡ nextSeed s b
+unfolding nextStep
 seed-place s b l u = rw (le-ltb (s .at) 9 l, lt-ltb (s .at) 25 u)
 
 -- past the head only n is left, and then nothing
-pub after-head : (s : Progress) (b : ℕ) → 33 ≤ s .at → next s b ≡ cond (ltb (s .at) 34) (nextN s b) Stop
-unfolding next
+pub after-head : (s : Progress) (b : ℕ) → 33 ≤ s .at → nextStep s b ≡ cond (ltb (s .at) 34) (nextN s b) Stop
+unfolding nextStep
 after-head s b h =
     rw (
       le-ltb (s .at) 9 (omega arith),
@@ -60,9 +60,9 @@ module _ (s : Progress) (b : ℕ) (v : List ℕ) (r : Recipe) where
   Led = (q : Progress) × Moved s b q × Leads q v r
 
   led : Leads s (b ∷ v) r → Led
-  led l = go (next s b) refl
+  led l = go (nextStep s b) refl
     where
-      go : (x : Step) → next s b ≡ x → Led
+      go : (x : Step) → nextStep s b ≡ x → Led
       go (On q) e = (q, moved s b q e, leads-back s b v r q e l)
       go Stop e = absurd (leads-stop s b v r e l)
 

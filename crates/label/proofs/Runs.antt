@@ -15,7 +15,7 @@ use Rattle.label.specs.Reader.{
   hexValue,
   decimalValue,
   form,
-  next,
+  nextStep,
   nextFixed,
   nextSeed,
   nextTens,
@@ -52,8 +52,8 @@ no-dots : every noDot 33 ≡ true
 unfolding every noDot
 no-dots = refl
 
-fixed-next : (s : Progress) (b : ℕ) → isFixed (s .at) ≡ true → next s b ≡ nextFixed s b
-unfolding next
+fixed-next : (s : Progress) (b : ℕ) → isFixed (s .at) ≡ true → nextStep s b ≡ nextFixed s b
+unfolding nextStep
 fixed-next s b h =
     by-order (s .at) 9 (λ a. rw (lt-ltb (s .at) 9 a))
     (λ a. by-order (s .at) 25 (λ c. seed-not (s .at) a c h)
@@ -68,16 +68,16 @@ fixed-next s b h =
       lt-ltb (s .at) 33 (fixed-below (s .at) h),
     )))))
 
-tens-on : (x b : ℕ) → 1 ≤ decimalValue b → decimalValue b < 3 → next (state 28 x 0 0) b ≡ On (state 29 x (decimalValue b) 0)
-unfolding next nextTens
+tens-on : (x b : ℕ) → 1 ≤ decimalValue b → decimalValue b < 3 → nextStep (state 28 x 0 0) b ≡ On (state 29 x (decimalValue b) 0)
+unfolding nextStep nextTens
 tens-on x b l u = rw (le-ltb (decimalValue b) 1 l, lt-ltb (decimalValue b) 3 u)
 
-units-on : (x m b : ℕ) → decimalValue b < 10 → next (state 29 x m 0) b ≡ On (state 30 x (10 * m + decimalValue b) 0)
-unfolding next nextUnits
+units-on : (x m b : ℕ) → decimalValue b < 10 → nextStep (state 29 x m 0) b ≡ On (state 30 x (10 * m + decimalValue b) 0)
+unfolding nextStep nextUnits
 units-on x m b u = rw (lt-ltb (decimalValue b) 10 u)
 
 seed-on : (k x b : ℕ) → k < 16 → hexValue b < 16
-    → next (state (9 + k) x 0 0) b ≡ On (state (9 + k + 1) (16 * x + hexValue b) 0 0)
+    → nextStep (state (9 + k) x 0 0) b ≡ On (state (9 + k + 1) (16 * x + hexValue b) 0 0)
 unfolding nextSeed
 seed-on k x b h d = seed-place (state (9 + k) x 0 0) b (omega arith) (omega arith) ∙ rw (lt-ltb (hexValue b) 16 d)
 
@@ -123,7 +123,7 @@ module _ (text : List ℕ) (long : 33 ≤ length text) (formed : every (formedAt
       not-true (eqb (getD form at 0) 46) (rw f at (every-at noDot 33 at (fixed-below at f) no-dots)) in
       rw n at (every-at (formedAt text) 33 at (fixed-below at f) formed)
 
-  fixed-on : (at x m : ℕ) → isFixed at ≡ true → next (state at x m 0) (getD text at 0) ≡ On (state (at + 1) x m 0)
+  fixed-on : (at x m : ℕ) → isFixed at ≡ true → nextStep (state at x m 0) (getD text at 0) ≡ On (state (at + 1) x m 0)
   unfolding nextFixed
   fixed-on at x m f = fixed-next (state at x m 0) (getD text at 0) f ∙ rw (fixed-byte at f)
 

@@ -8,7 +8,7 @@ use lib.Pow.{pow-add}
 use lib.Seq.{append-snoc}
 use Rattle.label.specs.Label.{InRange, labelOf, hexDigits, decimal}
 use Rattle.label.specs.declared.Recipe.{Recipe}
-use Rattle.label.specs.Reader.{hexValue, decimalValue, next}
+use Rattle.label.specs.Reader.{hexValue, decimalValue, nextStep}
 use Rattle.label.proofs.Flat.{headWord, mWord, nWord, in-range, whole}
 use Rattle.label.proofs.Moved.{state}
 use Rattle.label.proofs.Leads.{Leads}
@@ -38,7 +38,7 @@ m-join b c v l u h =
 module _ (r : Recipe) where
   -- nothing follows the end
   ended : (w : List ℕ) (seed m n : ℕ) → Leads (state 34 seed m n) w r → (w ≡ []) × (record { seed = seed; m = m; n = n } ≡ r)
-  unfolding Leads next
+  unfolding Leads nextStep
   ended [] seed m n l = (refl, l .1)
   ended (b ∷ w) seed m n l = absurd l
 
@@ -63,7 +63,7 @@ module _ (r : Recipe) where
   -- m is two digits, the first 1 or 2
   m-read : (x : ℕ) (w : List ℕ) → Leads (state 28 x 0 0) w r
       → (m : ℕ) × (v : List ℕ) × (w ≡ decimal m ++ v) × (10 ≤ m) × (m ≤ 29) × Leads (state 30 x m 0) v r
-  unfolding next
+  unfolding nextStep
   m-read x [] l = not-empty (state 28 x 0 0) r (omega arith) l
   m-read x (b ∷ []) l = not-empty (state 29 x (decimalValue b) 0) r (omega arith) (tens-inv (state 28 x 0 0) b [] r l refl .2)
   m-read x (b ∷ c ∷ w) l =
@@ -80,7 +80,7 @@ module _ (r : Recipe) where
   -- n's digits, of which x are read, and LF
   n-read : (w : List ℕ) (seed m x : ℕ) → x ≤ 124 → Leads (state 33 seed m x) w r
       → (n : ℕ) × (record { seed = seed; m = m; n = n } ≡ r) × (soFar x ++ w ≡ decimal n ++ (10 ∷ [])) × (1 ≤ n) × (n ≤ 124)
-  unfolding next
+  unfolding nextStep
   n-read [] seed m x h l = not-empty (state 33 seed m x) r (omega arith) l
   n-read (b ∷ w) seed m x h l = go (n-inv (state 33 seed m x) b w r l refl) (λ y u. n-read w seed m y u)
     where

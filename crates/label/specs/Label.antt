@@ -30,11 +30,14 @@ hexDigits (suc k) x = hexDigits k (x / 16) ++ (hexDigit (x % 16) ∷ [])
 abbrev pub digit : ℕ → ℕ
 digit d = 48 + d
 
--- a number below 1000 in decimal, with no leading zero
-unfoldable pub decimal : ℕ → List ℕ
-decimal x =
-    cond (ltb x 10) (digit x ∷ [])
-    (cond (ltb x 100) (digit (x / 10) ∷ digit (x % 10) ∷ []) (digit (x / 100) ∷ digit (x / 10 % 10) ∷ digit (x % 10) ∷ []))
+-- a number of at most k digits in decimal, with no leading zero
+unfoldable pub decimalIn : ℕ → ℕ → List ℕ
+decimalIn zero x = []
+decimalIn (suc k) x = cond (ltb x 10) (digit x ∷ []) (decimalIn k (x / 10) ++ (digit (x % 10) ∷ []))
+
+-- a 64-bit number has at most 20
+abbrev pub decimal : ℕ → List ℕ
+decimal x = decimalIn 20 x
 
 -- a line ends in LF
 abbrev pub line : List ℕ → List ℕ

@@ -1,4 +1,4 @@
--- How the reader goes, what is before n at once and the rest a byte at a time, for its inner functions. The promise of `read_label` is in Reading.antt and knows nothing of this.
+-- Inner: how the reader goes, what is before n at once and the rest a byte at a time. Reading.antt, the promise, knows nothing of this.
 use Prim.Native.Nat.{ℕ, zero, suc, _+_, _-_, _*_, _^_, _<_, _≤_, min}
 use mathlib.Core.Bool.{Bool, true, cond, _&&_, _||_}
 use mathlib.Core.List.{List, [], _∷_, _++_}
@@ -50,8 +50,8 @@ nextN s b =
     (cond (ltb (10 * s .n + decimalValue b) 125) (onTo (s .at) (s .seed) (s .m) (10 * s .n + decimalValue b)) Stop))
     (cond (ltb (s .n) 1) Stop (cond (eqb b 10) (onTo (s .at + 1) (s .seed) (s .m) (s .n)) Stop))
 
-unfoldable pub next : Progress → ℕ → Step
-next s b =
+unfoldable pub nextStep : Progress → ℕ → Step
+nextStep s b =
     cond (ltb (s .at) 9) (nextFixed s b)
     (cond (ltb (s .at) 25) (nextSeed s b)
     (cond (ltb (s .at) 28) (nextFixed s b)
@@ -80,7 +80,7 @@ onward f r Stop = r
 -- the reading of what is left of a text, of which i bytes are read
 unfoldable pub readFrom : Progress → ℕ → List ℕ → Reading
 readFrom s i [] = endedAt s i
-readFrom s i (b ∷ t) = onward (λ q. readFrom q (suc i) t) (refusedAt i) (next s b)
+readFrom s i (b ∷ t) = onward (λ q. readFrom q (suc i) t) (refusedAt i) (nextStep s b)
 
 -- a reading has come to a state, whose place is the number of bytes read: what is left gives the whole reading
 pub record Reached (text : List ℕ) (s : Progress) : Type 0 where

@@ -1,4 +1,4 @@
--- How the writer goes, for its inner functions.
+-- Inner: the bytes from n on, as the writer puts them.
 use Prim.Native.Nat.{ℕ, _/_, _%_}
 use mathlib.Core.Bool.{cond}
 use mathlib.Core.List.{List, [], _∷_}

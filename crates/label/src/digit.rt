@@ -9,7 +9,7 @@ ghost use Rattle.label.specs.Reader.{hexValue, decimalValue, form};
 pub const FORM: [u8; 33] = *b"v=1\nseed=................\nm=..\nn=";
 
 // The value of a lower-case hex digit, 16 for any other byte.
-pub fn hex_value(byte: u8) -> u64
+pub(crate) fn hex_value(byte: u8) -> u64
     ensures { λ r. ⌜ (r ≡ hexValue byte) × (r ≤ 16) ⌝ }
 {
     if byte < 48 {
@@ -28,7 +28,7 @@ pub fn hex_value(byte: u8) -> u64
 }
 
 // Whether a byte is a lower-case hex digit, with no branch: sixteen bytes are tested at once.
-pub fn is_hex(byte: u8) -> bool
+pub(crate) fn is_hex(byte: u8) -> bool
     ensures { λ r. ⌜ r ≡ ltb (hexValue byte) 16 ⌝ }
 {
     ((48 <= byte) & (byte < 58)) | ((97 <= byte) & (byte < 103))
@@ -41,7 +41,7 @@ fn wide(byte: u8) -> u64
 }
 
 // The value of a byte that is a hex digit, with no branch: its low four bits, and 9 more for a letter.
-pub fn known_hex(byte: u8) -> u64
+pub(crate) fn known_hex(byte: u8) -> u64
     requires { ⌜ hexValue byte < 16 ⌝ }
     ensures { λ r. ⌜ r ≡ hexValue byte ⌝ }
 {
@@ -50,7 +50,7 @@ pub fn known_hex(byte: u8) -> u64
 }
 
 // The value of a decimal digit, 10 for any other byte.
-pub fn value(byte: u8) -> u32
+pub(crate) fn value(byte: u8) -> u32
     ensures { λ r. ⌜ (r ≡ decimalValue byte) × (r ≤ 10) ⌝ }
 {
     if byte < 48 {
@@ -63,7 +63,7 @@ pub fn value(byte: u8) -> u32
 }
 
 // The byte at a place of the form; 0 past its end.
-pub fn form(at: u32) -> u8
+pub(crate) fn form(at: u32) -> u8
     ensures { λ r. ⌜ r ≡ getD form at 0 ⌝ }
 {
     let form = FORM;

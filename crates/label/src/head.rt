@@ -51,7 +51,7 @@ fn seed_of(text: &[u8]) -> u64
 }
 
 // The head where the text has a valid one; else nothing is read, and the reader finds the place.
-pub fn before_n(text: &[u8]) -> Progress
+pub(crate) fn before_n(text: &[u8]) -> Progress
     ensures { λ r. ⌜ Reached (now (text .entry)) r ⌝ }
 {
     let start = Progress {

@@ -6,6 +6,7 @@ mod writer;
 
 use answer::Answer;
 pub use reader::read_label;
+pub use writer::in_range;
 pub use writer::write_label;
 
 // What the maker makes a program and a memory of.

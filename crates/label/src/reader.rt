@@ -8,7 +8,7 @@ ghost use mathlib.Core.Path.{_≡_};
 ghost use Prim.Native.Nat.{_^_, _≤_, _<_};
 ghost use Rattle.label.specs.Reader.{
   Fits,
-  next,
+  nextStep,
   nextFixed,
   nextSeed,
   nextTens,
@@ -140,7 +140,7 @@ fn n_digit(s: Progress, byte: u8) -> Step
 // One byte on. Each kind of place has its function; n's test comes first, since a valid label comes here with its n alone.
 fn advance(s: Progress, byte: u8) -> Step
     requires { ⌜ Fits s ⌝ }
-    ensures { λ r. ⌜ r ≡ next s byte ⌝ }
+    ensures { λ r. ⌜ r ≡ nextStep s byte ⌝ }
 {
     let at = s.at;
     if 34 <= at {

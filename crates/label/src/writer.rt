@@ -12,19 +12,10 @@ ghost use Rattle.label.specs.Label.{hexDigit, ranged, labelOf};
 ghost use Rattle.label.specs.Writer.{tailOf};
 ghost use Rattle.label.specs.Writing.{written, buffered};
 
-fn in_range(recipe: Recipe) -> bool
+pub fn in_range(recipe: Recipe) -> bool
     ensures { λ r. ⌜ r ≡ ranged recipe ⌝ }
 {
-    if recipe.m < 10 {
-        return false;
-    }
-    if 29 < recipe.m {
-        return false;
-    }
-    if recipe.n < 1 {
-        return false;
-    }
-    recipe.n <= 124
+    ((10 <= recipe.m) & (recipe.m <= 29)) & ((1 <= recipe.n) & (recipe.n <= 124))
 }
 
 // The digits of n and LF, then 0.

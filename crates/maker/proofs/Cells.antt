@@ -2,32 +2,34 @@
 -- Assumes nothing.
 use mathlib.Core.Path.{_≡_, refl, ap, ap₂}
 use mathlib.Core.Bool.{Bool, true, false}
-use mathlib.Core.List.{List}
 use Prim.Native.Nat.{ℕ, zero, suc, _+_, _-_, _*_, _/_, _%_, _≤_, _<_}
 use native.Mathlib.Omega.{arith}
 use borrow.Author.Tests.{lt-ltb, le-ltb}
 use lib.ListN.{getD}
-use Rattle.word.specs.Element.{_⟨_⟩, element}
+use Rattle.word.specs.Element.{element}
 use Rattle.word.proofs.Lists.{_∷≡_}
+use Rattle.form.specs.declared.Kind.{Kind}
 use Rattle.form.specs.declared.Op.{Op}
 use Rattle.machine.specs.Extension.{elementAt, leftAt, termOf, joined, result}
-use Rattle.maker.specs.Drawn.{cellDrawn, kindOf, aOf, cOf}
-use Rattle.maker.specs.Made.{opOf, beOf, lengthOf, slotCell, slotOf, cellOf}
+use Rattle.maker.specs.Drawn.{Draws}
+use Rattle.maker.specs.Made.{kindPicked, opPicked, bePicked, countPicked, slotCells, slotCell, cellOf}
+use Rattle.maker.specs.Inner.{eight}
+use Rattle.maker.proofs.Making.{by-kind}
 
-module _ (seed n : ℕ) where
-  pub drawn-cell : (k : ℕ) → k < 32 → cellOf seed n k ≡ cellDrawn seed k
+module _ (d : Draws) (n : ℕ) where
+  pub drawn-cell : (k : ℕ) → k < 32 → cellOf d n k ≡ d .cell k
   unfolding cellOf
   drawn-cell k h = rw (lt-ltb k 32 h)
 
   pub slot-cell : (i j : ℕ) → i < n → j < 8
-      → cellOf seed n (32 + 8 * i + j) ≡ slotCell (cellDrawn seed) (kindOf seed i) (aOf seed i) (cOf seed i) j
+      → cellOf d n (32 + 8 * i + j) ≡ slotCell d i j
   unfolding cellOf
   slot-cell i j h b =
       let slot : (32 + 8 * i + j - 32) / 8 ≡ i = omega arith in
       let place : (32 + 8 * i + j - 32) % 8 ≡ j = omega arith in
       rw (le-ltb (32 + 8 * i + j) 32 (omega arith), slot, place, lt-ltb i n h)
 
-  pub cell-past : (j : ℕ) → cellOf seed n (32 + 8 * n + j) ≡ 0
+  pub cell-past : (j : ℕ) → cellOf d n (32 + 8 * n + j) ≡ 0
   unfolding cellOf
   cell-past j =
       rw (le-ltb (32 + 8 * n + j) 32 (omega arith), le-ltb ((32 + 8 * n + j - 32) / 8) n (omega arith))
@@ -48,22 +50,19 @@ module _ (f g : ℕ → ℕ) (same : (k : ℕ) → k < 32 → f k ≡ g k) where
       ap₂ (joined op) (ap₂ (termOf op) (left-same be a i (omega arith)) (element-same (b + 5 * i) (omega arith)))
       (result-same op be a b (suc i) n (omega arith) (omega arith))
 
-  pub slot-same : (kind a c j : ℕ) → a < 32 → c < 32 → slotCell f kind a c j ≡ slotCell g kind a c j
-  slot-same zero a c j ha hc = rw (same a ha, same c hc)
-  slot-same (suc zero) a c j ha hc = rw (same a ha, same c hc)
-  slot-same (suc (suc zero)) a c j ha hc = rw (same a ha)
-  slot-same (suc (suc (suc zero))) a c j ha hc = refl
-  slot-same (suc (suc (suc (suc k)))) a c j ha hc =
-      ap (λ (e : List ℕ). e ⟨ j ⟩) (result-same (opOf c) (beOf c) (a % 16) (16 + a % 4) 0 (lengthOf c) (omega arith) (omega arith))
+  pub slot-same : (kind a c : ℕ) → a < 32 → c < 32 → slotCells f (kindPicked kind c) a c ≡ slotCells g (kindPicked kind c) a c
+  slot-same kind a c ha hc =
+      by-kind (λ (k : Kind). slotCells f k a c ≡ slotCells g k a c) kind c (rw (same a ha, same c hc)) (rw (same a ha, same c hc)) (rw (same a ha)) refl
+      (result-same (opPicked c) (bePicked c) (a % 16) (16 + a % 4) 0 (countPicked c) (omega arith) (omega arith))
 
--- the eight cells of a slot, by number
-pub slot-at : (cell : ℕ → ℕ) (kind a c j : ℕ) → j < 8 → getD (slotOf cell kind a c) j 0 ≡ slotCell cell kind a c j
-slot-at cell kind a c zero h = refl
-slot-at cell kind a c (suc zero) h = refl
-slot-at cell kind a c (suc (suc zero)) h = refl
-slot-at cell kind a c (suc (suc (suc zero))) h = refl
-slot-at cell kind a c (suc (suc (suc (suc zero)))) h = refl
-slot-at cell kind a c (suc (suc (suc (suc (suc zero))))) h = refl
-slot-at cell kind a c (suc (suc (suc (suc (suc (suc zero)))))) h = refl
-slot-at cell kind a c (suc (suc (suc (suc (suc (suc (suc zero))))))) h = refl
-slot-at cell kind a c (suc (suc (suc (suc (suc (suc (suc (suc j)))))))) h = absurd (omega arith)
+-- eight words, by number
+pub eight-at : (f : ℕ → ℕ) (j : ℕ) → j < 8 → getD (eight f) j 0 ≡ f j
+eight-at f zero h = refl
+eight-at f (suc zero) h = refl
+eight-at f (suc (suc zero)) h = refl
+eight-at f (suc (suc (suc zero))) h = refl
+eight-at f (suc (suc (suc (suc zero)))) h = refl
+eight-at f (suc (suc (suc (suc (suc zero))))) h = refl
+eight-at f (suc (suc (suc (suc (suc (suc zero)))))) h = refl
+eight-at f (suc (suc (suc (suc (suc (suc (suc zero))))))) h = refl
+eight-at f (suc (suc (suc (suc (suc (suc (suc (suc j)))))))) h = absurd (omega arith)

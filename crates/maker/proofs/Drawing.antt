@@ -9,7 +9,7 @@ use borrow.Author.Count.{below-more}
 use lib.ListN.{length, getD, set}
 use lib.Seq.{getD-set-same, getD-set-other}
 use Rattle.draw.specs.Draw.{advance}
-use Rattle.maker.specs.Drawn.{stateAfter, cellDrawn, kindOf, aOf, cOf}
+use Rattle.maker.specs.Drawn.{stateAfter, drawsOf}
 
 module _ (seed : ℕ) where
   pub one-draw : (k : ℕ) → stateAfter seed (suc k) ≡ advance (stateAfter seed k)
@@ -20,12 +20,12 @@ module _ (seed : ℕ) where
   state-next k = rw (add-one k) (one-draw k)
 
   -- one cell more
-  pub stored : (cells : List ℕ) (k : ℕ) → k < length cells → ((j : ℕ) → j < k → getD cells j 0 ≡ cellDrawn seed j)
-      → (j : ℕ) → j < k + 1 → getD (set cells k (cellDrawn seed k)) j 0 ≡ cellDrawn seed j
+  pub stored : (cells : List ℕ) (k : ℕ) → k < length cells → ((j : ℕ) → j < k → getD cells j 0 ≡ drawsOf seed .cell j)
+      → (j : ℕ) → j < k + 1 → getD (set cells k (drawsOf seed .cell k)) j 0 ≡ drawsOf seed .cell j
   stored cells k h below =
-      below-more (λ (j : ℕ). getD (set cells k (cellDrawn seed k)) j 0 ≡ cellDrawn seed j) k
-      (λ j b. getD-set-other cells k j (cellDrawn seed k) 0 (λ e. omega arith) ∙ below j b)
-      (getD-set-same cells k (cellDrawn seed k) 0 h)
+      below-more (λ (j : ℕ). getD (set cells k (drawsOf seed .cell k)) j 0 ≡ drawsOf seed .cell j) k
+      (λ j b. getD-set-other cells k j (drawsOf seed .cell k) 0 (λ e. omega arith) ∙ below j b)
+      (getD-set-same cells k (drawsOf seed .cell k) 0 h)
 
   -- the three draws of instruction i
   module _ (i : ℕ) where
@@ -40,14 +40,14 @@ module _ (seed : ℕ) where
     unfolding start
     third = let e : 34 + 3 * i ≡ suc (33 + 3 * i) = omega arith in rw e (one-draw (33 + 3 * i) ∙ ap advance second)
 
-    pub kind-drawn : kindOf seed i ≡ advance (stateAfter seed (32 + 3 * i)) / 2 ^ 32 % 5
+    pub kind-drawn : drawsOf seed .kind i ≡ advance (stateAfter seed (32 + 3 * i)) / 2 ^ 32 % 5
     kind-drawn = rw (one-draw (32 + 3 * i))
 
-    pub a-drawn : aOf seed i ≡ advance (advance (stateAfter seed (32 + 3 * i))) / 2 ^ 32 % 32
+    pub a-drawn : drawsOf seed .a i ≡ advance (advance (stateAfter seed (32 + 3 * i))) / 2 ^ 32 % 32
     unfolding start
     a-drawn = rw (one-draw (33 + 3 * i), second)
 
-    pub c-drawn : cOf seed i ≡ advance (advance (advance (stateAfter seed (32 + 3 * i)))) / 2 ^ 32 % 32
+    pub c-drawn : drawsOf seed .c i ≡ advance (advance (advance (stateAfter seed (32 + 3 * i)))) / 2 ^ 32 % 32
     unfolding start
     c-drawn = rw (one-draw (34 + 3 * i), third)
 

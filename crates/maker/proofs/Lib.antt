@@ -7,3 +7,4 @@ pub mod Answers
 pub mod WellFormed
 pub mod ReadBack
 pub mod Seeds
+pub mod Determined

@@ -1,31 +1,37 @@
--- A kind above 3 is an extension, and what its draws make.
+-- The kind that a number picks, and what an extension's draws make.
 -- Assumes nothing.
 use mathlib.Core.Path.{_≡_, refl, sym}
 use mathlib.Core.List.{List, [], _∷_}
 use mathlib.Core.Bool.{Bool, true, false}
 use Prim.Native.Nat.{ℕ, zero, suc, _+_, _%_, _≤_, _<_}
 use native.Mathlib.Omega.{arith}
-use lib.Dec.{lit<, lit≤}
+use borrow.Author.Tests.{ne-eqb}
+use lib.Dec.{eqb, lit<, lit≤}
 use lib.ListN.{List·getD-eq-default}
 use Rattle.word.specs.Element.{_⟨_⟩, IsElement}
 use Rattle.word.proofs.Lists.{_∷≡_}
 use Rattle.word.proofs.ElementLaws.{word-element, sum-element, product-element}
 use Rattle.form.specs.Data.{dataWord}
+use Rattle.form.specs.declared.Kind.{Kind}
+use Rattle.form.specs.declared.Kind.the-variants as kinds
 use Rattle.form.specs.declared.Op.{Op}
 use Rattle.form.specs.declared.Op.the-variants.{Add, Mul, Peq}
+use Rattle.form.proofs.Cases.{by-test}
 use Rattle.machine.specs.Extension.{result}
-use Rattle.maker.specs.Made.{made, slotOf, opOf, beOf, lengthOf}
+use Rattle.maker.specs.Made.{kindPicked, opPicked, bePicked, countPicked}
+use Rattle.maker.specs.Inner.{slotWords}
 
--- what holds of every number from 4 on
-by-four : (P : ℕ → Type 0) → ((k : ℕ) → P (suc (suc (suc (suc k))))) → (kind : ℕ) → 4 ≤ kind → P kind
-by-four P f zero h = absurd (omega arith)
-by-four P f (suc zero) h = absurd (omega arith)
-by-four P f (suc (suc zero)) h = absurd (omega arith)
-by-four P f (suc (suc (suc zero))) h = absurd (omega arith)
-by-four P f (suc (suc (suc (suc k)))) h = f k
+-- what holds of the five kinds holds of the one that is picked
+pub by-kind : (P : Kind → Type 0) (kind c : ℕ) → P kinds.Add → P kinds.Mul → P kinds.Deref → P kinds.Jump
+    → P (kinds.Extension (opPicked c) (bePicked c) (countPicked c)) → P (kindPicked kind c)
+by-kind P kind c add mul deref jump extension =
+    by-test P (eqb kind 0) (λ _. add)
+    (λ _. by-test P (eqb kind 1) (λ _. mul) (λ _. by-test P (eqb kind 2) (λ _. deref) (λ _. by-test P (eqb kind 3) (λ _. jump) (λ _. extension))))
 
-pub made-extension : (i kind a c : ℕ) → 4 ≤ kind → made i kind a c ≡ made i 4 a c
-made-extension i kind a c = by-four (λ (k : ℕ). made i k a c ≡ made i 4 a c) (λ k. refl) kind
+-- from 4 on it is an extension
+pub picked-extension : (kind c : ℕ) → 4 ≤ kind → kindPicked kind c ≡ kinds.Extension (opPicked c) (bePicked c) (countPicked c)
+picked-extension kind c h =
+    rw (ne-eqb kind 0 (λ e. omega arith), ne-eqb kind 1 (λ e. omega arith), ne-eqb kind 2 (λ e. omega arith), ne-eqb kind 3 (λ e. omega arith))
 
 -- a sum or product of elements is an element
 pub result-element : (cell : ℕ → ℕ) (op : Op) (be : Bool) (a b i n : ℕ) → IsElement (result cell op be a b i n)
@@ -41,13 +47,13 @@ past : (e : List ℕ) → IsElement e → (j : ℕ) → 5 ≤ j → e ⟨ j ⟩ 
 past e is j h = List·getD-eq-default e 0 {n = j} (omega (arith, is .five-long))
 
 pub slot-extension : (cell : ℕ → ℕ) (kind a c : ℕ) → 4 ≤ kind
-    → (let e = result cell (opOf c) (beOf c) (a % 16) (16 + a % 4) 0 (lengthOf c) in
-    e ⟨ 0 ⟩ ∷ e ⟨ 1 ⟩ ∷ e ⟨ 2 ⟩ ∷ e ⟨ 3 ⟩ ∷ e ⟨ 4 ⟩ ∷ 0 ∷ 0 ∷ 0 ∷ [] ≡ slotOf cell kind a c)
-slot-extension cell kind a c =
-    let e = result cell (opOf c) (beOf c) (a % 16) (16 + a % 4) 0 (lengthOf c) in
-    let is = result-element cell (opOf c) (beOf c) (a % 16) (16 + a % 4) 0 (lengthOf c) in
-    by-four (λ (k : ℕ). e ⟨ 0 ⟩ ∷ e ⟨ 1 ⟩ ∷ e ⟨ 2 ⟩ ∷ e ⟨ 3 ⟩ ∷ e ⟨ 4 ⟩ ∷ 0 ∷ 0 ∷ 0 ∷ [] ≡ slotOf cell k a c)
-    (λ k. refl ∷≡ refl ∷≡ refl ∷≡ refl ∷≡ refl ∷≡ sym (past e is 5 (lit≤ tt)) ∷≡ sym (past e is 6 (lit≤ tt)) ∷≡ sym (past e is 7 (lit≤ tt)) ∷≡ refl) kind
+    → (let e = result cell (opPicked c) (bePicked c) (a % 16) (16 + a % 4) 0 (countPicked c) in
+    e ⟨ 0 ⟩ ∷ e ⟨ 1 ⟩ ∷ e ⟨ 2 ⟩ ∷ e ⟨ 3 ⟩ ∷ e ⟨ 4 ⟩ ∷ 0 ∷ 0 ∷ 0 ∷ [] ≡ slotWords cell (kindPicked kind c) a c)
+slot-extension cell kind a c h =
+    let e = result cell (opPicked c) (bePicked c) (a % 16) (16 + a % 4) 0 (countPicked c) in
+    let is = result-element cell (opPicked c) (bePicked c) (a % 16) (16 + a % 4) 0 (countPicked c) in
+    rw (picked-extension kind c h)
+    (refl ∷≡ refl ∷≡ refl ∷≡ refl ∷≡ refl ∷≡ sym (past e is 5 (lit≤ tt)) ∷≡ sym (past e is 6 (lit≤ tt)) ∷≡ sym (past e is 7 (lit≤ tt)) ∷≡ refl)
 
 -- the DATA of one or two elements is small
 pub data-small : (op : Op) (be : Bool) (n : ℕ) → n ≤ 2 → dataWord op be n < 128

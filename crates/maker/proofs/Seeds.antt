@@ -10,7 +10,7 @@ use lib.Dec.{lit<}
 use Rattle.word.specs.Bytes.{wordAt}
 use Rattle.label.specs.declared.Recipe.{Recipe}
 use Rattle.draw.specs.Draw.{advance}
-use Rattle.maker.specs.Drawn.{stateAfter, drawn, cellDrawn}
+use Rattle.maker.specs.Drawn.{stateAfter, drawn, drawsOf}
 use Rattle.maker.specs.Bytes.{memoryOf}
 use Rattle.maker.proofs.ReadBack.{cell-read}
 use Rattle.maker.proofs.Cells.{drawn-cell}
@@ -43,20 +43,20 @@ module _ (m n : ℕ) where
   abbrev made : ℕ → Recipe
   made seed = record { seed = seed; m = m; n = n }
 
-  pub first-cell : (x y : ℕ) → memoryOf (made x) ≡ memoryOf (made y) → cellDrawn x 0 ≡ cellDrawn y 0
+  pub first-cell : (x y : ℕ) → memoryOf (made x) ≡ memoryOf (made y) → drawsOf x .cell 0 ≡ drawsOf y .cell 0
   first-cell x y e =
       let some : 0 < 2 ^ m = pow-pos m in
-      sym (cell-read (made x) 0 some ∙ drawn-cell x n 0 (lit< tt)) ∙ ap (λ (s : List ℕ). wordAt s 0) e ∙ cell-read (made y) 0 some ∙ drawn-cell y n 0 (lit< tt)
+      sym (cell-read (made x) 0 some ∙ drawn-cell (drawsOf x) n 0 (lit< tt)) ∙ ap (λ (s : List ℕ). wordAt s 0) e ∙ cell-read (made y) 0 some ∙ drawn-cell (drawsOf y) n 0 (lit< tt)
 
   -- 000000002fffffff, 000000012fffffff and ffffffff2fffffff: three memories
   pub low-middle : memoryOf (made 805306367) ≡ memoryOf (made 5100273663) → ⊥
   unfolding stateAfter advance
-  low-middle e = eqb-false (cellDrawn 805306367 0) (cellDrawn 5100273663 0) refl (first-cell 805306367 5100273663 e)
+  low-middle e = eqb-false (drawsOf 805306367 .cell 0) (drawsOf 5100273663 .cell 0) refl (first-cell 805306367 5100273663 e)
 
   pub low-high : memoryOf (made 805306367) ≡ memoryOf (made 18446744070219890687) → ⊥
   unfolding stateAfter advance
-  low-high e = eqb-false (cellDrawn 805306367 0) (cellDrawn 18446744070219890687 0) refl (first-cell 805306367 18446744070219890687 e)
+  low-high e = eqb-false (drawsOf 805306367 .cell 0) (drawsOf 18446744070219890687 .cell 0) refl (first-cell 805306367 18446744070219890687 e)
 
   pub middle-high : memoryOf (made 5100273663) ≡ memoryOf (made 18446744070219890687) → ⊥
   unfolding stateAfter advance
-  middle-high e = eqb-false (cellDrawn 5100273663 0) (cellDrawn 18446744070219890687 0) refl (first-cell 5100273663 18446744070219890687 e)
+  middle-high e = eqb-false (drawsOf 5100273663 .cell 0) (drawsOf 18446744070219890687 .cell 0) refl (first-cell 5100273663 18446744070219890687 e)

@@ -6,31 +6,27 @@ use mathlib.Core.List.{List, [], _∷_}
 use Prim.Native.Nat.{ℕ, zero, suc, _+_, _-_, _/_, _%_, _≤_, _<_}
 use native.Mathlib.Nat.{mod-lt}
 use native.Mathlib.Omega.{arith}
-use lib.Dec.{ltb, eqb, lit<}
+use lib.Dec.{ltb, lit<}
 use lib.ListN.{getD}
-use Rattle.word.specs.Word.{p, IsWord}
+use Rattle.word.specs.Word.{p, IsWord, _+ₚ_, _*ₚ_}
 use Rattle.word.proofs.WordLaws.{sum-word, product-word}
 use Rattle.form.specs.Form.{decodeOf, wellFormed}
 use Rattle.form.specs.declared.Instruction.{Instruction}
+use Rattle.form.specs.declared.Kind.{Kind}
 use Rattle.form.proofs.Cases.{by-test}
 use Rattle.form.proofs.DataLaws.{written}
-use Rattle.maker.specs.Drawn.{cellDrawn, kindOf, aOf, cOf}
-use Rattle.maker.specs.Made.{opOf, beOf, lengthOf, made, halt, instructionOf, slotCell, cellOf}
-use Rattle.maker.specs.Bytes.{wordsOf}
-use Rattle.maker.proofs.Making.{data-small, result-element}
+use Rattle.maker.specs.Drawn.{Draws, drawsOf}
+use Rattle.maker.specs.Made.{opPicked, bePicked, countPicked, kindPicked, made, instructionMade, slotCells, cellOf}
+use Rattle.maker.specs.Bytes.{instructionWords}
+use Rattle.maker.proofs.Making.{by-kind, data-small, result-element}
 
-made-formed : (i kind a c : ℕ) → wellFormed (made i kind a c) ≡ true
+pub well-formed : (d : Draws) (n i : ℕ) → wellFormed (instructionMade d n i) ≡ true
 unfolding decodeOf
-made-formed i zero a c = refl
-made-formed i (suc zero) a c = refl
-made-formed i (suc (suc zero)) a c = refl
-made-formed i (suc (suc (suc zero))) a c = refl
-made-formed i (suc (suc (suc (suc k)))) a c = rw (written (opOf c) (beOf c) (lengthOf c) (omega arith) (omega arith))
-
-pub well-formed : (seed n i : ℕ) → wellFormed (instructionOf seed n i) ≡ true
-unfolding decodeOf
-well-formed seed n i =
-    by-test (λ (x : Instruction). wellFormed x ≡ true) (ltb i n) (λ t. made-formed i (kindOf seed i) (aOf seed i) (cOf seed i)) (λ t. refl)
+well-formed d n i =
+    by-test (λ (x : Instruction). wellFormed x ≡ true) (ltb i n)
+    (λ t. by-kind (λ (k : Kind). wellFormed (made i k (d .a i) (d .c i)) ≡ true) (d .kind i) (d .c i) refl refl refl refl
+    (rw (written (opPicked (d .c i)) (bePicked (d .c i)) (countPicked (d .c i)) (omega arith) (omega arith))))
+    (λ t. refl)
 
 -- words, one after the other
 abbrev Words : List ℕ → Type 0
@@ -42,32 +38,36 @@ each [] w k = w
 each (x ∷ xs) w zero = w .0
 each (x ∷ xs) w (suc k) = each xs (w .1) k
 
-made-words : (i kind a c : ℕ) → i ≤ 124 → a < 32 → c < 32 → Words (wordsOf (made i kind a c))
-made-words i zero a c hi ha hc = omega arith
-made-words i (suc zero) a c hi ha hc = omega arith
-made-words i (suc (suc zero)) a c hi ha hc = omega arith
-made-words i (suc (suc (suc zero))) a c hi ha hc = omega arith
-made-words i (suc (suc (suc (suc k)))) a c hi ha hc = omega (arith, data-small (opOf c) (beOf c) (lengthOf c) (omega arith))
+-- drawn cells are words, a and c below 32
+pub record Drawable (d : Draws) : Type 0 where
+  pub cells : (k : ℕ) → IsWord (d .cell k)
+  pub a : (i : ℕ) → d .a i < 32
+  pub c : (i : ℕ) → d .c i < 32
 
-pub program-words : (seed n i : ℕ) → n ≤ 124 → i ≤ n → (k : ℕ) → IsWord (getD (wordsOf (instructionOf seed n i)) k 0)
-program-words seed n i most h =
-    by-test (λ (x : Instruction). (k : ℕ) → IsWord (getD (wordsOf x) k 0)) (ltb i n)
-    (λ t. each (wordsOf (made i (kindOf seed i) (aOf seed i) (cOf seed i))) (made-words i (kindOf seed i) (aOf seed i) (cOf seed i) (omega arith) (mod-lt _ (lit< tt)) (mod-lt _ (lit< tt))))
-    (λ t. each (wordsOf (halt n)) (omega arith))
+pub drawable : (seed : ℕ) → Drawable (drawsOf seed)
+drawable seed = record { cells = λ k. mod-lt _ (lit< tt); a = λ i. mod-lt _ (lit< tt); c = λ i. mod-lt _ (lit< tt) }
 
-module _ (cell : ℕ → ℕ) (words : (k : ℕ) → IsWord (cell k)) where
-  slot-words : (kind a c j : ℕ) → a < 32 → IsWord (slotCell cell kind a c j)
-  slot-words zero a c j h = by-test IsWord (eqb j 0) (λ t. sum-word _ _) (λ t. lit< tt)
-  slot-words (suc zero) a c j h = by-test IsWord (eqb j 0) (λ t. product-word _ _) (λ t. lit< tt)
-  slot-words (suc (suc zero)) a c j h =
-      by-test IsWord (eqb j 0) (λ t. omega arith) (λ t. by-test IsWord (eqb j 1) (λ s. words a) (λ s. lit< tt))
-  slot-words (suc (suc (suc zero))) a c j h = lit< tt
-  slot-words (suc (suc (suc (suc k)))) a c j h = result-element cell (opOf c) (beOf c) (a % 16) (16 + a % 4) 0 (lengthOf c) .all-words j
+module _ (d : Draws) (is : Drawable d) (n : ℕ) where
+  pub program-words : n ≤ 124 → (i : ℕ) → i ≤ n → (k : ℕ) → IsWord (getD (instructionWords (instructionMade d n i)) k 0)
+  program-words most i h =
+      each (instructionWords (instructionMade d n i))
+      (by-test (λ (x : Instruction). Words (instructionWords x)) (ltb i n)
+      (λ t. by-kind (λ (x : Kind). Words (instructionWords (made i x (d .a i) (d .c i)))) (d .kind i) (d .c i)
+      (omega (arith, is .a i, is .c i)) (omega (arith, is .a i, is .c i)) (omega arith) (omega arith)
+      (omega (arith, data-small (opPicked (d .c i)) (bePicked (d .c i)) (countPicked (d .c i)) (omega arith))))
+      (λ t. omega arith))
 
-pub cell-word : (seed n k : ℕ) → IsWord (cellOf seed n k)
-unfolding cellOf
-cell-word seed n k =
-    by-test IsWord (ltb k 32) (λ t. mod-lt _ (lit< tt))
-    (λ t. by-test IsWord (ltb ((k - 32) / 8) n)
-    (λ s. slot-words (cellDrawn seed) (λ j. mod-lt _ (lit< tt)) (kindOf seed ((k - 32) / 8)) (aOf seed ((k - 32) / 8)) (cOf seed ((k - 32) / 8)) ((k - 32) % 8) (mod-lt _ (lit< tt)))
-    (λ s. lit< tt))
+  slot-words : (kind a c : ℕ) → a < 32 → (j : ℕ) → IsWord (getD (slotCells (d .cell) (kindPicked kind c) a c) j 0)
+  slot-words kind a c h =
+      by-kind (λ (k : Kind). (j : ℕ) → IsWord (getD (slotCells (d .cell) k a c) j 0)) kind c
+      (each ((d .cell a +ₚ d .cell c) ∷ []) (sum-word _ _, lit< tt)) (each ((d .cell a *ₚ d .cell c) ∷ []) (product-word _ _, lit< tt))
+      (each (a ∷ d .cell a ∷ []) (omega arith, (is .cells a, lit< tt))) (each [] (lit< tt))
+      (λ j. result-element (d .cell) (opPicked c) (bePicked c) (a % 16) (16 + a % 4) 0 (countPicked c) .all-words j)
+
+  pub cell-word : (k : ℕ) → IsWord (cellOf d n k)
+  unfolding cellOf
+  cell-word k =
+      by-test IsWord (ltb k 32) (λ t. is .cells k)
+      (λ t. by-test IsWord (ltb ((k - 32) / 8) n)
+      (λ s. slot-words (d .kind ((k - 32) / 8)) (d .a ((k - 32) / 8)) (d .c ((k - 32) / 8)) (is .a ((k - 32) / 8)) ((k - 32) % 8))
+      (λ s. lit< tt))

@@ -10,33 +10,34 @@ use Rattle.answer.specs.declared.Answer.{Answer}
 use Rattle.answer.specs.declared.Answer.the-variants.{Accepted, Size}
 use Rattle.label.specs.Label.{ranged}
 use Rattle.label.specs.declared.Recipe.{Recipe}
-use Rattle.maker.specs.Made.{instructionOf, cellOf}
+use Rattle.maker.specs.Drawn.{Draws, drawsOf}
+use Rattle.maker.specs.Made.{instructionMade, cellOf}
 
 -- four bytes for each word
 abbrev pub wordBytes : List ℕ → List ℕ
 wordBytes words = concatenated (λ k. bytesOf (getD words k 0)) (length words)
 
 -- an instruction's 12 words
-abbrev pub wordsOf : Instruction → List ℕ
-wordsOf i =
+abbrev pub instructionWords : Instruction → List ℕ
+instructionWords i =
     i .a ∷ i .b ∷ i .c ∷ i .fa ∷ i .fb ∷ i .fc ∷ i .fpc ∷ i .fpab ∷ i .mul ∷ i .jump ∷ i .aux ∷ i .«data» ∷ []
 
--- the first k instructions of a recipe, and the first k cells
-abbrev pub instructionsOf : ℕ → ℕ → ℕ → List ℕ
-instructionsOf seed n k = concatenated (λ i. wordBytes (wordsOf (instructionOf seed n i))) k
+-- the first k instructions, of which n are drawn, and the first k cells
+abbrev pub instructionsOf : Draws → ℕ → ℕ → List ℕ
+instructionsOf d n k = concatenated (λ i. wordBytes (instructionWords (instructionMade d n i))) k
 
-abbrev pub cellsOf : ℕ → ℕ → ℕ → List ℕ
-cellsOf seed n k = concatenated (λ j. bytesOf (cellOf seed n j)) k
+abbrev pub cellsOf : Draws → ℕ → ℕ → List ℕ
+cellsOf d n k = concatenated (λ j. bytesOf (cellOf d n j)) k
 
 abbrev pub programOf : Recipe → List ℕ
-programOf r = instructionsOf (r .seed) (r .n) (r .n + 1)
+programOf r = instructionsOf (drawsOf (r .seed)) (r .n) (r .n + 1)
 
 abbrev pub memoryOf : Recipe → List ℕ
-memoryOf r = cellsOf (r .seed) (r .n) (2 ^ r .m)
+memoryOf r = cellsOf (drawsOf (r .seed)) (r .n) (2 ^ r .m)
 
 -- parts 0, 1 and 2, the lowest that fails
-abbrev pub fits : Recipe → ℕ → ℕ → Bool
-fits r program memory = ranged r && eqb program (48 * (r .n + 1)) && eqb memory (4 * 2 ^ r .m)
+abbrev pub sizesFit : Recipe → ℕ → ℕ → Bool
+sizesFit r program memory = ranged r && eqb program (48 * (r .n + 1)) && eqb memory (4 * 2 ^ r .m)
 
 unfoldable pub makeOf : Recipe → ℕ → ℕ → Answer
 makeOf r program memory =
@@ -46,7 +47,7 @@ makeOf r program memory =
 
 -- what a buffer holds at return: all of it is filled, and refusals change no byte
 abbrev pub programAfter : Recipe → List ℕ → List ℕ → List ℕ
-programAfter r program memory = cond (fits r (length program) (length memory)) (programOf r) program
+programAfter r program memory = cond (sizesFit r (length program) (length memory)) (programOf r) program
 
 abbrev pub memoryAfter : Recipe → List ℕ → List ℕ → List ℕ
-memoryAfter r program memory = cond (fits r (length program) (length memory)) (memoryOf r) memory
+memoryAfter r program memory = cond (sizesFit r (length program) (length memory)) (memoryOf r) memory

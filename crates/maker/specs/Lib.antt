@@ -1,3 +1,4 @@
 pub mod Drawn
 pub mod Made
+pub mod Inner
 pub mod Bytes

@@ -4,7 +4,7 @@ ghost use mathlib.Core.Path.{_≡_};
 ghost use Prim.Native.Nat.{ℕ, _/_, _%_, _^_, _<_};
 ghost use lib.ListN.{getD};
 ghost use Rattle.draw.specs.Draw.{advance};
-ghost use Rattle.maker.specs.Drawn.{stateAfter, cellDrawn};
+ghost use Rattle.maker.specs.Drawn.{stateAfter, drawsOf};
 
 // p
 const P: u32 = 2130706433;
@@ -23,9 +23,9 @@ pub struct Three {
     pub next: Generator,
 }
 
-pub fn begin(seed: u64) -> Begun
+pub(crate) fn begin(seed: u64) -> Begun
     ensures { λ r. ⌜
-        ((k : ℕ) → k < 32 → getD (r .cells) k 0 ≡ cellDrawn seed k)
+        ((k : ℕ) → k < 32 → getD (r .cells) k 0 ≡ drawsOf seed .cell k)
         × (r .next .state ≡ stateAfter seed 32)
         ⌝ }
 {
@@ -45,7 +45,7 @@ pub fn begin(seed: u64) -> Begun
     }
 }
 
-pub fn draw_three(generator: Generator) -> Three
+pub(crate) fn draw_three(generator: Generator) -> Three
     ensures { λ r. ⌜
         (r .kind ≡ advance (generator .state) / 2 ^ 32 % 5)
         × (r .a ≡ advance (advance (generator .state)) / 2 ^ 32 % 32)

@@ -5,18 +5,18 @@ use form::data_word;
 ghost use mathlib.Core.Path.{_≡_};
 ghost use Prim.Native.Nat.{_≤_};
 ghost use Rattle.form.specs.Data.{dataWord};
-ghost use Rattle.maker.specs.Made.{opOf, beOf, lengthOf, made, halt};
-ghost use Rattle.maker.specs.Bytes.{wordsOf};
+ghost use Rattle.maker.specs.Made.{opPicked, bePicked, countPicked, kindPicked, made, halt};
+ghost use Rattle.maker.specs.Bytes.{instructionWords};
 
 fn data_of(c: u32) -> u32
-    ensures { λ r. ⌜ r ≡ dataWord (opOf c) (beOf c) (lengthOf c) ⌝ }
+    ensures { λ r. ⌜ r ≡ dataWord (opPicked c) (bePicked c) (countPicked c) ⌝ }
 {
     data_word(op_of(c), c / 6 % 2 == 1, 1 + c % 2) as u32
 }
 
-pub fn made_words(i: u32, kind: u32, a: u32, c: u32) -> [u32; 12]
+pub(crate) fn made_words(i: u32, kind: u32, a: u32, c: u32) -> [u32; 12]
     requires { ⌜ i ≤ 124 ⌝ }
-    ensures { λ r. ⌜ r ≡ wordsOf (made i kind a c) ⌝ }
+    ensures { λ r. ⌜ r ≡ instructionWords (made i (kindPicked kind c) a c) ⌝ }
 {
     let slot = 32 + 8 * i;
     match kind {
@@ -29,8 +29,8 @@ pub fn made_words(i: u32, kind: u32, a: u32, c: u32) -> [u32; 12]
 }
 
 // Instruction n jumps to itself.
-pub fn halt_words(n: u32) -> [u32; 12]
-    ensures { λ r. ⌜ r ≡ wordsOf (halt n) ⌝ }
+pub(crate) fn halt_words(n: u32) -> [u32; 12]
+    ensures { λ r. ⌜ r ≡ instructionWords (halt n) ⌝ }
 {
     [1, n, 0, 1, 1, 0, 1, 0, 0, 1, 0, 0]
 }

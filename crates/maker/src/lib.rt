@@ -7,18 +7,12 @@ mod write;
 
 use answer::Answer;
 use label::Recipe;
+use label::in_range;
 use write::fill;
 ghost use mathlib.Core.Path.{_≡_};
 ghost use Prim.Native.Nat.{_*_, _^_, _≤_};
 ghost use lib.ListN.{length};
-ghost use Rattle.label.specs.Label.{ranged};
 ghost use Rattle.maker.specs.Bytes.{makeOf, programAfter, memoryAfter};
-
-fn in_range(recipe: Recipe) -> bool
-    ensures { λ r. ⌜ r ≡ ranged recipe ⌝ }
-{
-    ((10 <= recipe.m) & (recipe.m <= 29)) & ((1 <= recipe.n) & (recipe.n <= 124))
-}
 
 fn memory_size(m: u32) -> usize
     requires { ⌜ m ≤ 29 ⌝ }

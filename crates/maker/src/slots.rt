@@ -4,11 +4,12 @@ use word::add;
 use word::mul;
 ghost use mathlib.Core.Path.{_≡_};
 ghost use Prim.Native.Nat.{_<_};
-ghost use Rattle.maker.specs.Made.{cellIn, slotOf};
+ghost use Rattle.maker.specs.Made.{kindPicked};
+ghost use Rattle.maker.specs.Inner.{cellIn, slotWords};
 
-pub fn slot_words(cells: &[u32; 32], kind: u32, a: u32, c: u32) -> [u32; 8]
+pub(crate) fn slot_words(cells: &[u32; 32], kind: u32, a: u32, c: u32) -> [u32; 8]
     requires { ⌜ (a < 32) × (c < 32) ⌝ }
-    ensures { λ r. ⌜ r ≡ slotOf (cellIn (now (cells .entry))) kind a c ⌝ }
+    ensures { λ r. ⌜ r ≡ slotWords (cellIn (now (cells .entry))) (kindPicked kind c) a c ⌝ }
 {
     let x = cells[a as usize];
     let y = cells[c as usize];

@@ -10,8 +10,10 @@ ghost use mathlib.Core.Path.{_≡_};
 ghost use mathlib.Core.List.{_++_};
 ghost use Prim.Native.Nat.{_+_, _*_, _/_, _%_, _≤_, _<_};
 ghost use lib.ListN.{length, drop, replicate};
-ghost use Rattle.maker.specs.Made.{cellIn, made, slotOf};
-ghost use Rattle.maker.specs.Bytes.{wordsOf, wordBytes, instructionsOf, cellsOf};
+ghost use Rattle.maker.specs.Drawn.{drawsOf};
+ghost use Rattle.maker.specs.Made.{kindPicked, made};
+ghost use Rattle.maker.specs.Inner.{cellIn, slotWords};
+ghost use Rattle.maker.specs.Bytes.{instructionWords, wordBytes, instructionsOf, cellsOf};
 
 // Words, into as many bytes.
 fn put_words(words: &[u32], s: &mut [u8])
@@ -39,8 +41,8 @@ fn clear(s: &mut [u8])
 fn put_one(cells: &[u32; 32], i: u32, drawn: Three, instruction: &mut [u8], slot: &mut [u8])
     requires { ⌜ (i ≤ 124) × (drawn .a < 32) × (drawn .c < 32) × (length (now instruction) ≡ 48) × (length (now slot) ≡ 32) ⌝ }
     ensures { λ _. ⌜
-        (now (instruction .exit) ≡ wordBytes (wordsOf (made i (drawn .kind) (drawn .a) (drawn .c))))
-        × (now (slot .exit) ≡ wordBytes (slotOf (cellIn (now (cells .entry))) (drawn .kind) (drawn .a) (drawn .c)))
+        (now (instruction .exit) ≡ wordBytes (instructionWords (made i (kindPicked (drawn .kind) (drawn .c)) (drawn .a) (drawn .c))))
+        × (now (slot .exit) ≡ wordBytes (slotWords (cellIn (now (cells .entry))) (kindPicked (drawn .kind) (drawn .c)) (drawn .a) (drawn .c)))
         ⌝ }
 {
     let words = made_words(i, drawn.kind, drawn.a, drawn.c);
@@ -53,8 +55,8 @@ fn put_one(cells: &[u32; 32], i: u32, drawn: Three, instruction: &mut [u8], slot
 fn put_all(seed: u64, n: u32, program: &mut [u8], memory: &mut [u8])
     requires { ⌜ (n ≤ 124) × (48 * n ≤ length (now program)) × (128 + 32 * n ≤ length (now memory)) ⌝ }
     ensures { λ _. ⌜
-        (now (program .exit) ≡ instructionsOf seed n n ++ drop (48 * n) (now (program .entry)))
-        × (now (memory .exit) ≡ cellsOf seed n (32 + 8 * n) ++ drop (128 + 32 * n) (now (memory .entry)))
+        (now (program .exit) ≡ instructionsOf (drawsOf seed) n n ++ drop (48 * n) (now (program .entry)))
+        × (now (memory .exit) ≡ cellsOf (drawsOf seed) n (32 + 8 * n) ++ drop (128 + 32 * n) (now (memory .entry)))
         ⌝ }
 {
     let begun = begin(seed);
@@ -84,7 +86,7 @@ fn put_all(seed: u64, n: u32, program: &mut [u8], memory: &mut [u8])
 }
 
 // All of both buffers; past the slots the memory is 0.
-pub fn fill(seed: u64, n: u32, program: &mut [u8], memory: &mut [u8])
+pub(crate) fn fill(seed: u64, n: u32, program: &mut [u8], memory: &mut [u8])
     requires { ⌜
         (n ≤ 124)
         × (length (now program) ≡ 48 * (n + 1))
@@ -92,8 +94,8 @@ pub fn fill(seed: u64, n: u32, program: &mut [u8], memory: &mut [u8])
         × (length (now memory) % 4 ≡ 0)
         ⌝ }
     ensures { λ _. ⌜
-        (now (program .exit) ≡ instructionsOf seed n (n + 1))
-        × (now (memory .exit) ≡ cellsOf seed n (length (now (memory .entry)) / 4))
+        (now (program .exit) ≡ instructionsOf (drawsOf seed) n (n + 1))
+        × (now (memory .exit) ≡ cellsOf (drawsOf seed) n (length (now (memory .entry)) / 4))
         ⌝ }
 {
     put_all(seed, n, &mut *program, &mut *memory);

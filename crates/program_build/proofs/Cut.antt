@@ -13,14 +13,14 @@ use Rattle.label.specs.Label.{ranged, labelOf}
 use Rattle.label.specs.Reading.{shared, Reads}
 use Rattle.label.specs.declared.Reading.{Reading}
 use Rattle.label.specs.declared.Recipe.{Recipe}
-use Rattle.label.proofs.Bytes.{one-digit, two-digit, three-digit}
+use Rattle.label.proofs.Bytes.{long-35, long-36, long-37}
 use Rattle.label.proofs.Order.{by-order}
 
 -- a label is at most 37 bytes long
 pub label-most : (r : Recipe) → ranged r ≡ true → length (labelOf r) ≤ 37
 label-most r h =
-    by-order (r .n) 10 (λ a. omega (arith, one-digit r h a))
-    (λ a. by-order (r .n) 100 (λ b. omega (arith, two-digit r h a b)) (λ b. omega (arith, three-digit r h b)))
+    by-order (r .n) 10 (λ a. omega (arith, long-35 r h a))
+    (λ a. by-order (r .n) 100 (λ b. omega (arith, long-36 r h a b)) (λ b. omega (arith, long-37 r h b)))
 
 -- a text shares no byte behind its end
 shared-cut : (xs ys : List ℕ) (k : ℕ) → length xs ≤ k → shared xs (take k ys) ≡ shared xs ys

@@ -1,4 +1,3 @@
-pub mod Answers
 pub mod Recipes
 pub mod Cut
 pub mod Output

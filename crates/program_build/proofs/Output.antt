@@ -15,7 +15,7 @@ use Rattle.label.specs.Reading.{Reads}
 use Rattle.label.specs.declared.Reading.{Reading}
 use Rattle.label.proofs.Label.{reading-determined}
 use Rattle.program_lines.proofs.Placing.{Stands, over-front}
-use Rattle.program_build.specs.Built.{accepted}
+use Rattle.answer.specs.Verdicts.{accepted}
 use Rattle.program_build.specs.Output.{Fills, Outputs}
 use Rattle.program_build.proofs.Cut.{later-bytes}
 
@@ -38,22 +38,22 @@ module _ (bytes out l : List ℕ) (size : ℕ) (h : Fills bytes out l size) wher
   fills-part : size ≡ length (take size l)
   fills-part = rw (h .sized, h .filled) (sym (ap length (take-at bytes (drop (length bytes) out) (length bytes) refl)))
 
-module _ (outputOf : Reading → List ℕ) (text out : List ℕ) where
-  pub output-fits : {l : List ℕ} {size : ℕ} → Outputs outputOf text out l size → size ≤ length l
-  output-fits h = fills-fits (outputOf (h .reading)) out _ _ (h .fills)
+module _ (output : Reading → List ℕ) (text out : List ℕ) where
+  pub output-fits : {l : List ℕ} {size : ℕ} → Outputs output text out l size → size ≤ length l
+  output-fits h = fills-fits (output (h .reading)) out _ _ (h .fills)
 
-  pub output-part : {l : List ℕ} {size : ℕ} → Outputs outputOf text out l size → size ≡ length (take size l)
-  output-part h = fills-part (outputOf (h .reading)) out _ _ (h .fills)
+  pub output-part : {l : List ℕ} {size : ℕ} → Outputs output text out l size → size ≡ length (take size l)
+  output-part h = fills-part (output (h .reading)) out _ _ (h .fills)
 
   -- a program that reads 38 bytes writes what it owes for all of them
-  pub whole-input : {l : List ℕ} {size : ℕ} → Outputs outputOf (take 38 text) out l size → Outputs outputOf text out l size
+  pub whole-input : {l : List ℕ} {size : ℕ} → Outputs output (take 38 text) out l size → Outputs output text out l size
   whole-input h = record { reading = h .reading; reads = later-bytes text (h .reading) (h .reads); fills = h .fills }
 
   -- no two sizes and buffers keep the promise
-  pub output-determined : Determined (λ (x : ℕ × List ℕ). Outputs outputOf text out (x .1) (x .0))
+  pub output-determined : Determined (λ (x : ℕ × List ℕ). Outputs output text out (x .1) (x .0))
   output-determined r s a b =
-      let e : outputOf (a .reading) ≡ outputOf (b .reading) =
-      ap outputOf (reading-determined text (a .reading) (b .reading) (a .reads) (b .reads)) in
+      let e : output (a .reading) ≡ output (b .reading) =
+      ap output (reading-determined text (a .reading) (b .reading) (a .reads) (b .reads)) in
       let filled : List ℕ → List ℕ = λ o. o ++ drop (length o) out in
       λ i. (
         (a .fills .sized ∙ (ap length e ∙ sym (b .fills .sized))) i,

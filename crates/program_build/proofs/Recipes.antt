@@ -9,6 +9,7 @@ use borrow.Author.Tests.{eq-eqb}
 use lib.Dec.{eqb}
 use lib.ListN.{length, take}
 use lib.Seq.{length-take-le}
+use Rattle.answer.specs.Verdicts.{accepted}
 use Rattle.answer.specs.declared.Answer.{Answer}
 use Rattle.answer.specs.declared.Answer.the-variants.{
   Accepted,
@@ -29,11 +30,10 @@ use Rattle.answer.specs.declared.Answer.the-variants.{
 use Rattle.label.specs.Label.{ranged}
 use Rattle.label.proofs.Range.{n-high}
 use Rattle.label.specs.declared.Recipe.{Recipe}
-use Rattle.maker.specs.Bytes.{makeOf, fits, programOf, memoryOf, programAfter, memoryAfter}
-use Rattle.tabler_spec.specs.Tabled.{heldAfter}
-use Rattle.program_build.specs.Built.{accepted, buildOf, execBuilt, extBuilt}
+use Rattle.maker.specs.Bytes.{sizesFit, programOf, memoryOf, programAfter, memoryAfter}
+use Rattle.tabler_spec.specs.Tabled.{tableOf, heldAfter, execAfter, extAfter}
 use Rattle.program_build.specs.Inner.{Spaces}
-use Rattle.program_build.specs.Recipes.{tabledOf, execOf, extOf}
+use Rattle.program_build.specs.Recipes.{tabledOf, execTabled, extTabled}
 
 no : false ≡ true → ⊥
 no e = let z : _≡_ {A = ℕ} 0 1 = cc in omega arith
@@ -67,34 +67,31 @@ module _ (r : Recipe) (p m e x : List ℕ) (room : Spaces r (length p) (length m
   memory-size =
       eq-eqb (length m) (4 * 2 ^ r .m) (room .memory-long ∙ ap (λ (k : ℕ). 4 * 2 ^ k) (sym (room .ten)))
 
-  made : makeOf r (length p) (length m) ≡ Accepted
-  unfolding makeOf
-  made = rw (room .inside, program-size, memory-size)
-
-  fitting : fits r (length p) (length m) ≡ true
+  fitting : sizesFit r (length p) (length m) ≡ true
   fitting = rw (room .inside, program-size, memory-size)
 
-  pub program-is : programAfter r p m ≡ programOf r
-  program-is = rw fitting
-
-  pub memory-is : memoryAfter r p m ≡ memoryOf r
-  memory-is = rw fitting
-
-  build-is : buildOf r p m e x ≡ tabledOf r
-  unfolding buildOf tabledOf
-  build-is = rw (made, program-is, memory-is, room .exec-long, room .ext-long)
-
-  -- it is accepted exactly where the tabler accepts
-  pub tabled-is : {a : Answer} → a ≡ buildOf r p m e x → accepted a ≡ accepted (tabledOf r)
-  tabled-is is = ap accepted (is ∙ build-is)
-
-  pub exec-is : accepted (tabledOf r) ≡ true → execBuilt r p m e x ≡ execOf r
-  unfolding execBuilt execOf tabledOf
-  exec-is h = rw (made, program-is, memory-is, room .exec-long, room .ext-long) (held (tabledOf r) e (execOf r) h)
-
-  pub ext-is : accepted (tabledOf r) ≡ true → extBuilt r p m e x ≡ extOf r
-  unfolding extBuilt extOf tabledOf
-  ext-is h = rw (made, program-is, memory-is, room .exec-long, room .ext-long) (held (tabledOf r) x (extOf r) h)
+  -- what the maker leaves, and the tabler's answer and tables on it
+  pub built : {program memory exec ext : List ℕ} {a : Answer}
+      → program ≡ programAfter r p m
+      → memory ≡ memoryAfter r p m
+      → a ≡ tableOf program memory 0 0 (length e) (length x)
+      → exec ≡ execAfter program memory 0 0 e x
+      → ext ≡ extAfter program memory 0 0 e x
+      → (a ≡ tabledOf r)
+      × (program ≡ programOf r)
+      × (memory ≡ memoryOf r)
+      × (exec ≡ heldAfter (tabledOf r) e (execTabled r))
+      × (ext ≡ heldAfter (tabledOf r) x (extTabled r))
+  unfolding tabledOf execTabled extTabled
+  built i j f g k =
+      let first : programAfter r p m ≡ programOf r = rw fitting in
+      let second : memoryAfter r p m ≡ memoryOf r = rw fitting in (
+        f ∙ rw (i ∙ first, j ∙ second, room .exec-long, room .ext-long),
+        i ∙ first,
+        j ∙ second,
+        g ∙ rw (i ∙ first, j ∙ second, room .exec-long, room .ext-long),
+        k ∙ rw (i ∙ first, j ∙ second, room .exec-long, room .ext-long),
+      )
 
 -- the part of the longest program that a recipe's takes
 module _ (r : Recipe) (space : List ℕ) (inside : ranged r ≡ true) (long : 6000 ≡ length space) where

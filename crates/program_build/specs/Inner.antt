@@ -1,4 +1,4 @@
--- What the programs' inner functions are handed.
+-- Inner: what the programs' functions are handed.
 use Prim.Native.Nat.{ℕ, _+_, _*_}
 use mathlib.Core.Bool.{true}
 use mathlib.Core.Path.{_≡_}

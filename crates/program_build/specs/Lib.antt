@@ -1,4 +1,3 @@
-pub mod Built
 pub mod Recipes
 pub mod Output
 pub mod Inner

@@ -11,8 +11,8 @@ pub record Fills (bytes before after : List ℕ) (size : ℕ) : Type 0 where
   pub sized : size ≡ length bytes
   pub filled : after ≡ bytes ++ drop (length bytes) before
 
--- a program's promise, where `outputOf` says what it writes for a reading: it reads the text, and writes that
-pub record Outputs (outputOf : Reading → List ℕ) (text before after : List ℕ) (size : ℕ) : Type 0 where
+-- a program's promise, where `output` says what it writes for a reading: it reads the text, and writes that
+pub record Outputs (output : Reading → List ℕ) (text before after : List ℕ) (size : ℕ) : Type 0 where
   pub reading : Reading
   pub reads : Reads text reading
-  pub fills : Fills (outputOf reading) before after size
+  pub fills : Fills (output reading) before after size

@@ -19,19 +19,19 @@ module _ (r : Recipe) where
   unfoldable pub tabledOf : Answer
   tabledOf = tableOf (programOf r) (memoryOf r) 0 0 (32 * height) (120 * height)
 
-  abbrev machine : Machine
-  machine = machineOf (programOf r) (memoryOf r)
+  abbrev machineMade : Machine
+  machineMade = machineOf (programOf r) (memoryOf r)
 
   abbrev states : ℕ → State
-  states = stateAt machine (record { pc = 0; fp = 0 })
+  states = stateAt machineMade (record { pc = 0; fp = 0 })
 
   -- the two tables of the run
-  unfoldable pub execOf : List ℕ
-  execOf = execTable machine states height
+  unfoldable pub execTabled : List ℕ
+  execTabled = execTable machineMade states height
 
-  unfoldable pub extOf : List ℕ
-  extOf = extTable machine states height height
+  unfoldable pub extTabled : List ℕ
+  extTabled = extTable machineMade states height height
 
   -- parts 1 to 4 in order
-  abbrev pub partsOf : List ℕ
-  partsOf = programOf r ++ memoryOf r ++ execOf ++ extOf
+  abbrev pub fourParts : List ℕ
+  fourParts = programOf r ++ memoryOf r ++ execTabled ++ extTabled

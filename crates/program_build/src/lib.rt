@@ -2,7 +2,6 @@
 mod space;
 
 use answer::Answer;
-use answer::four_numbers;
 use label::Recipe;
 use maker::make;
 pub use space::exec_space;
@@ -11,17 +10,13 @@ pub use space::memory_space;
 pub use space::program_space;
 use tabler::table;
 ghost use mathlib.Core.Path.{_≡_};
-ghost use Rattle.program_build.specs.Built.{accepted, buildOf, execBuilt, extBuilt};
-ghost use Rattle.maker.specs.Bytes.{programAfter, memoryAfter};
+ghost use lib.ListN.{length};
+ghost use Rattle.maker.specs.Bytes.{programOf, memoryOf};
+ghost use Rattle.tabler_spec.specs.Tabled.{heldAfter};
+ghost use Rattle.program_build.specs.Inner.{Spaces};
+ghost use Rattle.program_build.specs.Recipes.{tabledOf, execTabled, extTabled};
 
-pub fn accepted(answer: Answer) -> bool
-    ensures { λ r. ⌜ r ≡ accepted answer ⌝ }
-{
-    let numbers = four_numbers(answer);
-    numbers.verdict == 0
-}
-
-// The maker's refusal, or the tabler's answer on what was made, from pc 0 and fp 0.
+// The tabler's answer on what the maker made, from pc 0 and fp 0.
 pub fn build(
     recipe: Recipe,
     program: &mut [u8],
@@ -29,17 +24,15 @@ pub fn build(
     exec: &mut [u8],
     ext: &mut [u8],
 ) -> Answer
+    requires { ⌜ Spaces recipe (length (now program)) (length (now memory)) (length (now exec)) (length (now ext)) ⌝ }
     ensures { λ r. ⌜
-        (r ≡ buildOf recipe (now (program .entry)) (now (memory .entry)) (now (exec .entry)) (now (ext .entry)))
-        × (now (program .exit) ≡ programAfter recipe (now (program .entry)) (now (memory .entry)))
-        × (now (memory .exit) ≡ memoryAfter recipe (now (program .entry)) (now (memory .entry)))
-        × (now (exec .exit) ≡ execBuilt recipe (now (program .entry)) (now (memory .entry)) (now (exec .entry)) (now (ext .entry)))
-        × (now (ext .exit) ≡ extBuilt recipe (now (program .entry)) (now (memory .entry)) (now (exec .entry)) (now (ext .entry)))
+        (r ≡ tabledOf recipe)
+        × (now (program .exit) ≡ programOf recipe)
+        × (now (memory .exit) ≡ memoryOf recipe)
+        × (now (exec .exit) ≡ heldAfter (tabledOf recipe) (now (exec .entry)) (execTabled recipe))
+        × (now (ext .exit) ≡ heldAfter (tabledOf recipe) (now (ext .entry)) (extTabled recipe))
         ⌝ }
 {
-    let made = make(recipe, program, memory);
-    if !accepted(made) {
-        return made;
-    }
+    make(recipe, program, memory);
     table(program, memory, 0, 0, exec, ext)
 }

@@ -10,7 +10,8 @@ use borrow.Author.Tests.{lt-ltb, le-ltb}
 use lib.Dec.{ltb, lit<}
 use lib.ListN.{length, take, drop, set, length-append, length-drop}
 use lib.Seq.{set-split, drop-at, length-take-le, append-snoc, take-all}
-use Rattle.program_lines.specs.Line.{digit, decimalIn, decimal, ended, lineOf}
+use Rattle.label.specs.Label.{digit, decimalIn, decimal, line}
+use Rattle.program_lines.specs.Line.{lineOf}
 
 -- a byte stored in front of those that stand
 stored : (bytes : List ℕ) (k x : ℕ) → k < length bytes → drop k (set bytes k x) ≡ x ∷ drop (suc k) bytes
@@ -29,8 +30,8 @@ module _ (bytes : List ℕ) (k rest : ℕ) (h : k < length bytes) where
   digit-last g = rw (lt-ltb rest 10 (omega arith), stored bytes k (digit rest) h)
 
 -- the bytes from the first digit to the array's end
-pub digits-stand : (bytes : List ℕ) (from x : ℕ) → 21 ≡ length bytes → drop from bytes ≡ ended (decimal x)
-    → take (21 - from) (drop from bytes) ≡ ended (decimal x)
+pub digits-stand : (bytes : List ℕ) (from x : ℕ) → 21 ≡ length bytes → drop from bytes ≡ line (decimal x)
+    → take (21 - from) (drop from bytes) ≡ line (decimal x)
 digits-stand bytes from x long e = take-all (21 - from) (drop from bytes) (omega (arith, length-drop from bytes)) ∙ e
 
 -- what is left after a digit is shorter, and is not all gone

@@ -1,28 +1,15 @@
--- Bytes that fit and bytes that do not; one text after another is both as one.
+-- Bytes in the place of others; one text after another is both as one.
 -- Assumes nothing.
-use Prim.Native.Nat.{ℕ, _+_, _≤_, _<_}
+use Prim.Native.Nat.{ℕ, _+_, _≤_}
 use mathlib.Core.List.{List, _++_, append-assoc}
 use mathlib.Core.Path.{_≡_, sym, ap, _∙_}
 use native.Mathlib.Nat.{add-assoc, zero-add}
 use native.Mathlib.Omega.{arith}
-use borrow.Author.Tests.{le-leb, lt-leb}
 use lib.ListN.{length, take, drop, length-append, length-drop}
 use lib.Seq.{take-at, drop-at, drop-drop, length-take-le}
-use Rattle.program_lines.specs.Placed.{over, placed, placedEnd}
+use Rattle.program_lines.specs.Line.{over}
 
 module _ (out : List ℕ) (at : ℕ) (bytes : List ℕ) where
-  -- an end and a buffer are what the promise says
-  abbrev pub Kept : ℕ → List ℕ → Type 0
-  Kept end l = (end ≡ placedEnd (length out) at (length bytes)) × (l ≡ placed out at bytes)
-
-  pub fitting : at + length bytes ≤ length out → Kept (at + length bytes) (over out at bytes)
-  unfolding placed placedEnd
-  fitting h = (rw (le-leb (at + length bytes) (length out) h), rw (le-leb (at + length bytes) (length out) h))
-
-  pub too-long : length out < at + length bytes → Kept at out
-  unfolding placed placedEnd
-  too-long h = (rw (lt-leb (at + length bytes) (length out) h), rw (lt-leb (at + length bytes) (length out) h))
-
   -- what stands before the end of the bytes
   head-length : at ≤ length out → length (take at out ++ bytes) ≡ at + length bytes
   head-length h = length-append (take at out) bytes ∙ ap (λ (n : ℕ). n + length bytes) (length-take-le at out h)
@@ -48,19 +35,6 @@ module _ (out : List ℕ) (at : ℕ) (bytes : List ℕ) where
         append-assoc (take at out) bytes next,
       )
 
--- two texts as one
-module _ (out : List ℕ) (at : ℕ) (first second : List ℕ) where
-  pub both-too-long : length out < at + length first + length second → Kept out at (first ++ second) at out
-  both-too-long h = too-long out at (first ++ second) (omega (arith, length-append first second))
-
-  pub both-fitting : at + length first + length second ≤ length out → {middle end : List ℕ}
-      → middle ≡ over out at first
-      → end ≡ over middle (at + length first) second
-      → Kept out at (first ++ second) (at + length first + length second) end
-  both-fitting h m e =
-      let f = fitting out at (first ++ second) (omega (arith, length-append first second)) in
-      (omega (arith, length-append first second, f .0), e ∙ rw m (over-then out at first second (omega arith)) ∙ f .1)
-
 -- bytes at the front
 pub over-front : (out bytes : List ℕ) → over out 0 bytes ≡ bytes ++ drop (length bytes) out
 over-front out bytes = rw (zero-add (length bytes))
@@ -69,35 +43,26 @@ over-front out bytes = rw (zero-add (length bytes))
 abbrev pub Stands : List ℕ → ℕ → List ℕ → ℕ → List ℕ → Type 0
 Stands out at text end l = (end ≡ at + length text) × (l ≡ over out at text)
 
--- a text that is put, and one that is put where another ends
+-- texts that are put, each where the one before it ends
 module _ (out : List ℕ) (at : ℕ) where
-  pub stands-first : (text : List ℕ) {end : ℕ} {l : List ℕ} → at + length text ≤ length out
-      → Kept out at text end l
-      → Stands out at text end l
-  stands-first text h k = let f = fitting out at text h in (k .0 ∙ sym (f .0), k .1 ∙ sym (f .1))
-
-  pub stands-next : (text next : List ℕ) {middle end : ℕ} {l m : List ℕ} → at + length text + length next ≤ length out
+  pub stands-next : (text next : List ℕ) {middle end : ℕ} {l m : List ℕ} → at + length text ≤ length out
       → Stands out at text middle l
-      → Kept l middle next end m
+      → Stands l middle next end m
       → Stands out at (text ++ next) end m
-  stands-next text next {middle} {end} {l} {m} h s k =
-      let long : length l ≡ length out = rw (s .1) (over-length out at text (omega arith)) in
-      let f = fitting l middle next (omega (arith, s .0, long)) in
-      let e : end ≡ middle + length next = k .0 ∙ sym (f .0) in (
-        omega (arith, e, s .0, length-append text next),
-        k .1 ∙ sym (f .1) ∙ rw (s .0, s .1) (over-then out at text next (omega arith)),
-      )
+  stands-next text next h s n = (
+    omega (arith, n .0, s .0, length-append text next),
+    n .1 ∙ rw (s .0, s .1) (over-then out at text next h),
+  )
 
-  -- four texts, each where the one before it ends
-  pub stands-four : (a b c d : List ℕ) {i j k n : ℕ} {l m o p : List ℕ} → at + length a + length b + length c + length d ≤ length out
-      → Kept out at a i l
-      → Kept l i b j m
-      → Kept m j c k o
-      → Kept o k d n p
+  pub stands-four : (a b c d : List ℕ) {i j k n : ℕ} {l m o p : List ℕ} → at + length a + length b + length c ≤ length out
+      → Stands out at a i l
+      → Stands l i b j m
+      → Stands m j c k o
+      → Stands o k d n p
       → Stands out at (a ++ b ++ c ++ d) n p
   stands-four a b c d room e f g h =
       let two = length-append a b in
       let three = length-append (a ++ b) c in
       stands-next (a ++ b ++ c) d (omega (arith, two, three))
-      (stands-next (a ++ b) c (omega (arith, two)) (stands-next a b (omega arith) (stands-first a (omega arith) e) f) g)
+      (stands-next (a ++ b) c (omega (arith, two)) (stands-next a b (omega arith) e f) g)
       h

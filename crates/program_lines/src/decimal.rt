@@ -3,11 +3,11 @@ use crate::Digits;
 ghost use mathlib.Core.Path.{_≡_};
 ghost use Prim.Native.Nat.{_≤_};
 ghost use lib.ListN.{length, drop};
-ghost use Rattle.program_lines.specs.Line.{decimal, ended};
+ghost use Rattle.label.specs.Label.{decimal, line};
 
 // The digits of a number and LF, from the last to the first.
-pub fn ended_digits(number: u64) -> Digits
-    ensures { λ r. ⌜ (21 ≡ length (r .bytes)) × (r .from ≤ 21) × (drop (r .from) (r .bytes) ≡ ended (decimal number)) ⌝ }
+pub(crate) fn ended_digits(number: u64) -> Digits
+    ensures { λ r. ⌜ (21 ≡ length (r .bytes)) × (r .from ≤ 21) × (drop (r .from) (r .bytes) ≡ line (decimal number)) ⌝ }
 {
     let mut bytes = [10u8; 21];
     let mut i = 20;

@@ -3,7 +3,7 @@ use Prim.Native.Nat.{ℕ}
 use mathlib.Core.Bool.{cond}
 use mathlib.Core.List.{List, [], _∷_, _++_}
 use lib.Dec.{eqb}
-use Rattle.answer.specs.Verdicts.{numbersOf}
+use Rattle.answer.specs.Verdicts.{numbersOf, accepted}
 use Rattle.answer.specs.declared.Numbers.{Numbers}
 use Rattle.answer.specs.declared.Answer.{Answer}
 use Rattle.answer.specs.declared.Answer.the-variants.{Accepted, Size, Itself}
@@ -12,8 +12,7 @@ use Rattle.label.specs.declared.Reading.{Reading}
 use Rattle.label.specs.declared.Recipe.{Recipe}
 use Rattle.maker.specs.Bytes.{programOf, memoryOf}
 use Rattle.judge_spec.specs.Judged.{judgeOf}
-use Rattle.program_build.specs.Built.{accepted}
-use Rattle.program_build.specs.Recipes.{tabledOf, execOf, extOf}
+use Rattle.program_build.specs.Recipes.{tabledOf, execTabled, extTabled}
 use Rattle.program_lines.specs.Line.{lineOf}
 
 -- verdict=, part=, place= and rule=
@@ -40,7 +39,7 @@ linesOf a = fourLines (numbersOf a)
 -- the judge's answer to the recipe's own tables
 unfoldable pub judgedOf : Recipe → Answer
 judgedOf r =
-    judgeOf (record { program = programOf r; memory = memoryOf r; exec = execOf r; ext = extOf r; pc = 0; fp = 0 })
+    judgeOf (record { program = programOf r; memory = memoryOf r; exec = execTabled r; ext = extTabled r; pc = 0; fp = 0 })
 
 -- SELF where tabler or judge refuses them
 unfoldable pub ownOf : Recipe → Answer
@@ -51,6 +50,6 @@ unfoldable pub replayOf : Recipe → Answer
 replayOf r = cond (eqb (r .m) 10) (ownOf r) (Size 2 0)
 
 -- a bad label's four lines alone; else the label and then the four lines
-unfoldable pub outputOf : Reading → List ℕ
-outputOf r =
+unfoldable pub replayOutput : Reading → List ℕ
+replayOutput r =
     cond (accepted (r .answer)) (labelOf (r .recipe) ++ linesOf (replayOf (r .recipe))) (linesOf (r .answer))

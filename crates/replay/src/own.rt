@@ -1,8 +1,8 @@
 // A recipe's own tables, made and judged.
 use answer::Answer;
+use answer::accepted;
 use judge::judge;
 use label::Recipe;
-use program_build::accepted;
 use program_build::build;
 use program_build::exec_space;
 use program_build::ext_space;

@@ -13,12 +13,12 @@ abbrev pub verdictOf : Answer → ℕ
 verdictOf a = numbersOf a .verdict
 
 -- verdict, part, place, rule
-abbrev pub wordsOf : Answer → List ℕ
-wordsOf a = numbersOf a .verdict ∷ numbersOf a .part ∷ numbersOf a .place ∷ numbersOf a .rule ∷ []
+abbrev pub answerWords : Answer → List ℕ
+answerWords a = numbersOf a .verdict ∷ numbersOf a .part ∷ numbersOf a .place ∷ numbersOf a .rule ∷ []
 
 -- ANSWER first: a buffer of another length than 16 is told by the verdict, and keeps its bytes
 unfoldable pub returned : Answer → List ℕ → ℕ
 returned a buffer = cond (eqb (length buffer) 16) (verdictOf a) (verdictOf Buffer)
 
 abbrev pub replied : Answer → List ℕ → List ℕ
-replied a buffer = putRow buffer 16 (wordsOf a)
+replied a buffer = putRow buffer 16 (answerWords a)

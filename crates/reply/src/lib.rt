@@ -4,16 +4,15 @@ use answer::four_numbers;
 use word::put_word;
 ghost use mathlib.Core.Path.{_≡_};
 ghost use mathlib.Core.List.{[], _∷_};
+ghost use lib.ListN.{length};
 ghost use Rattle.rows.specs.Rows.{putRow};
 ghost use Rattle.reply.specs.Reply.{returned, replied};
 
-// Four words into 16 bytes; a buffer of another length is left as it is.
+// Four words into 16 bytes.
 pub fn put_four(buffer: &mut [u8], a: u32, b: u32, c: u32, d: u32)
+    requires { ⌜ length (now buffer) ≡ 16 ⌝ }
     ensures { λ _. ⌜ now (buffer .exit) ≡ putRow (now (buffer .entry)) 16 (a ∷ b ∷ c ∷ d ∷ []) ⌝ }
 {
-    if buffer.len() != 16 {
-        return;
-    }
     put_word(buffer, 0, a);
     put_word(buffer, 4, b);
     put_word(buffer, 8, c);

@@ -1,14 +1,13 @@
 -- A row at a byte is the first row of what is left from there.
 -- Assumes nothing.
-use mathlib.Core.Path.{_≡_, refl, sym, ap, _∙_}
+use mathlib.Core.Path.{_≡_, refl, ap, _∙_}
 use mathlib.Core.List.{List, _++_}
-use Prim.Native.Nat.{ℕ, _+_, _-_, _≤_}
-use native.Mathlib.Nat.{add-zero, add-assoc}
-use native.Mathlib.Omega.{arith}
-use lib.ListN.{length, getD, take, drop}
+use Prim.Native.Nat.{ℕ, _+_, _-_}
+use native.Mathlib.Nat.{add-assoc}
+use lib.ListN.{length, getD, drop}
 use lib.Seq.{drop-append-seam}
 use Rattle.word.proofs.Lists.{_∷≡_}
-use Rattle.word.proofs.Part.{word-part, word-later, word-drop, first-word}
+use Rattle.word.proofs.Part.{word-later, word-drop, first-word}
 use Rattle.word.specs.Bytes.{wordAt}
 use Rattle.rows.specs.Rows.{execAt, fiveAt, extAt}
 
@@ -56,12 +55,12 @@ module _ (s : List ℕ) (at : ℕ) where
       next : (n : ℕ) → wordAt s (at + k + n) ≡ wordAt (drop at s) (k + n)
       next n = ap (wordAt s) (add-assoc at k n) ∙ word-drop s at (k + n)
 
-  pub exec-drop : execAt s at ≡ execAt (drop at s) 0
+  exec-drop : execAt s at ≡ execAt (drop at s) 0
   unfolding execAt
   exec-drop =
       exec-made (drop at s) 0 (first-word s at) (word-drop s at 4) (word-drop s at 8) (word-drop s at 12) (word-drop s at 16) (word-drop s at 20) (word-drop s at 24) (word-drop s at 28)
 
-  pub ext-drop : extAt s at ≡ extAt (drop at s) 0
+  ext-drop : extAt s at ≡ extAt (drop at s) 0
   unfolding extAt
   ext-drop =
       ext-made (drop at s) 0 (first-word s at) (word-drop s at 4) (word-drop s at 8) (word-drop s at 12) (word-drop s at 16) (word-drop s at 20) (word-drop s at 24) (word-drop s at 28) (word-drop s at 32) (word-drop s at 36) (five-drop 40) (five-drop 60) (five-drop 80) (five-drop 100)
@@ -89,38 +88,3 @@ exec-behind front s = exec-drop _ _ ∙ ap (λ (t : List ℕ). execAt t 0) (drop
 
 pub ext-behind : (front s : List ℕ) → extAt (front ++ s) (length front) ≡ extAt s 0
 ext-behind front s = ext-drop _ _ ∙ ap (λ (t : List ℕ). extAt t 0) (drop-append-seam front s)
-
--- a row read from a part of the table is the one there of the table
-module _ (s : List ℕ) (at : ℕ) where
-  pub exec-part : execAt (take 32 (drop at s)) 0 ≡ execAt s at
-  unfolding execAt
-  exec-part = exec-made s at (word 0 (omega arith) ∙ ap (wordAt s) (add-zero at)) (word 4 (omega arith)) (word 8 (omega arith)) (word 12 (omega arith)) (word 16 (omega arith)) (word 20 (omega arith)) (word 24 (omega arith)) (word 28 (omega arith))
-    where
-      word : (k : ℕ) → k + 4 ≤ 32 → wordAt (take 32 (drop at s)) k ≡ wordAt s (at + k)
-      word = word-part s at 32
-
-  five-part : (k : ℕ) → k + 20 ≤ 120 → fiveAt (take 120 (drop at s)) k ≡ fiveAt s (at + k)
-  unfolding fiveAt
-  five-part k h = word-part s at 120 k (omega arith) ∷≡ next 4 (omega arith) ∷≡ next 8 (omega arith) ∷≡ next 12 (omega arith) ∷≡ next 16 (omega arith) ∷≡ refl
-    where
-      next : (n : ℕ) → k + n + 4 ≤ 120 → wordAt (take 120 (drop at s)) (k + n) ≡ wordAt s (at + k + n)
-      next n g = word-part s at 120 (k + n) g ∙ sym (ap (wordAt s) (add-assoc at k n))
-
-  pub ext-part : extAt (take 120 (drop at s)) 0 ≡ extAt s at
-  unfolding extAt
-  ext-part =
-      ext-made s at (word 0 (omega arith) ∙ ap (wordAt s) (add-zero at)) (word 4 (omega arith)) (word 8 (omega arith)) (word 12 (omega arith)) (word 16 (omega arith)) (word 20 (omega arith)) (word 24 (omega arith)) (word 28 (omega arith)) (word 32 (omega arith)) (word 36 (omega arith)) (five-part 40 (omega arith)) (five-part 60 (omega arith)) (five-part 80 (omega arith)) (five-part 100 (omega arith))
-    where
-      word : (k : ℕ) → k + 4 ≤ 120 → wordAt (take 120 (drop at s)) k ≡ wordAt s (at + k)
-      word = word-part s at 120
-
--- the same of a part that is lent by its start and its end
-pub exec-lent : (s : List ℕ) (at : ℕ) → execAt (take (at + 32 - at) (drop at s)) 0 ≡ execAt s at
-exec-lent s at =
-    let size : at + 32 - at ≡ 32 = omega arith in
-    ap (λ (n : ℕ). execAt (take n (drop at s)) 0) size ∙ exec-part s at
-
-pub ext-lent : (s : List ℕ) (at : ℕ) → extAt (take (at + 120 - at) (drop at s)) 0 ≡ extAt s at
-ext-lent s at =
-    let size : at + 120 - at ≡ 120 = omega arith in
-    ap (λ (n : ℕ). extAt (take n (drop at s)) 0) size ∙ ext-part s at

@@ -11,7 +11,7 @@ use lib.Seq.{drop-cons}
 use Rattle.word.proofs.FourBytes.{read-bytes, bytes-read}
 use Rattle.word.proofs.Lists.{_∷≡_}
 use Rattle.word.specs.Bytes.{wordAt, bytesOf}
-use Rattle.rows.proofs.Reading.{exec-behind, ext-behind}
+use Rattle.rows.proofs.Reading.{exec-made, ext-made, exec-behind, ext-behind}
 use Rattle.rows.specs.Rows.{execAt, fiveAt, extAt, bytesOfWords, execWords, fiveWords, extWords}
 use Rattle.rows.specs.declared.Exec.{Exec}
 use Rattle.rows.specs.declared.Ext.{Ext}
@@ -41,20 +41,14 @@ elements-drop (suc n) at s h =
 five-words : (a : List ℕ) → length a ≡ 5 → fiveWords a ≡ a
 five-words a e = rw (drop-of-length-le a {i = 5} (omega arith)) at (elements-drop 5 0 a (omega arith))
 
+got : {w : ℕ} → w < 2 ^ 32 → w ≡ wordAt (bytesOf w) 0
+got {w} f = sym (read-bytes w f)
+
 -- reading undoes writing, whatever follows
 exec-first : (x : Exec) (back : List ℕ) → Below (2 ^ 32) (execWords x) → execAt (bytesOfWords (execWords x) ++ back) 0 ≡ x
-unfolding execAt bytesOfWords
-exec-first x back f i =
-    record {
-      pc = read-bytes (x .pc) (f 0) i;
-      fp = read-bytes (x .fp) (f 1) i;
-      addrA = read-bytes (x .addrA) (f 2) i;
-      addrB = read-bytes (x .addrB) (f 3) i;
-      addrC = read-bytes (x .addrC) (f 4) i;
-      valueA = read-bytes (x .valueA) (f 5) i;
-      valueB = read-bytes (x .valueB) (f 6) i;
-      valueC = read-bytes (x .valueC) (f 7) i;
-    }
+unfolding bytesOfWords
+exec-first x back f =
+    sym (exec-made _ 0 (got (f 0)) (got (f 1)) (got (f 2)) (got (f 3)) (got (f 4)) (got (f 5)) (got (f 6)) (got (f 7)))
 
 five-first : (a : List ℕ) → length a ≡ 5
     → getD a 0 0 < 2 ^ 32
@@ -68,24 +62,13 @@ five-first a e f₀ f₁ f₂ f₃ f₄ =
     (read-bytes _ f₀ ∷≡ read-bytes _ f₁ ∷≡ read-bytes _ f₂ ∷≡ read-bytes _ f₃ ∷≡ read-bytes _ f₄ ∷≡ refl) ∙ five-words a e
 
 ext-first : (x : Ext) (back : List ℕ) → Below (2 ^ 32) (extWords x) → Fives x → extAt (bytesOfWords (extWords x) ++ back) 0 ≡ x
-unfolding extAt fiveAt bytesOfWords
-ext-first x back f five i =
-    record {
-      start = read-bytes (x .start) (f 0) i;
-      add = read-bytes (x .add) (f 1) i;
-      mul = read-bytes (x .mul) (f 2) i;
-      peq = read-bytes (x .peq) (f 3) i;
-      len = read-bytes (x .len) (f 4) i;
-      idxA = read-bytes (x .idxA) (f 5) i;
-      idxB = read-bytes (x .idxB) (f 6) i;
-      idxR = read-bytes (x .idxR) (f 7) i;
-      be = read-bytes (x .be) (f 8) i;
-      base = read-bytes (x .base) (f 9) i;
-      vA = five-first (x .vA) (five .vA-five) (f 10) (f 11) (f 12) (f 13) (f 14) i;
-      vB = five-first (x .vB) (five .vB-five) (f 15) (f 16) (f 17) (f 18) (f 19) i;
-      comp = five-first (x .comp) (five .comp-five) (f 20) (f 21) (f 22) (f 23) (f 24) i;
-      res = five-first (x .res) (five .res-five) (f 25) (f 26) (f 27) (f 28) (f 29) i;
-    }
+unfolding fiveAt bytesOfWords
+ext-first x back f five =
+    sym (ext-made _ 0 (got (f 0)) (got (f 1)) (got (f 2)) (got (f 3)) (got (f 4)) (got (f 5)) (got (f 6)) (got (f 7)) (got (f 8)) (got (f 9))
+    (sym (five-first (x .vA) (five .vA-five) (f 10) (f 11) (f 12) (f 13) (f 14)))
+    (sym (five-first (x .vB) (five .vB-five) (f 15) (f 16) (f 17) (f 18) (f 19)))
+    (sym (five-first (x .comp) (five .comp-five) (f 20) (f 21) (f 22) (f 23) (f 24)))
+    (sym (five-first (x .res) (five .res-five) (f 25) (f 26) (f 27) (f 28) (f 29))))
 
 module _ (x : Exec) (f : Below (2 ^ 32) (execWords x)) where
   pub read-exec : execAt (bytesOfWords (execWords x)) 0 ≡ x

@@ -1,49 +1,12 @@
 // Extension rows.
 use crate::Ext;
 use word::put_word;
-use word::rest;
-use word::word_at;
 use word::word_inside;
 ghost use mathlib.Core.Path.{_≡_};
 ghost use Prim.Native.Nat.{_+_, _≤_, _<_, _^_};
 ghost use lib.ListN.{length, getD};
 ghost use Rattle.word.specs.Bytes.{withWord};
 ghost use Rattle.rows.specs.Rows.{fiveAt, extAt, extWords, putRow};
-
-fn five_short(s: &[u8], at: usize) -> [u32; 5]
-    requires { ⌜ at + 16 < 2 ^ 64 ⌝ }
-    ensures { λ r. ⌜ r ≡ fiveAt (now (s .entry)) at ⌝ }
-{
-    [
-        word_at(s, at),
-        word_at(s, at + 4),
-        word_at(s, at + 8),
-        word_at(s, at + 12),
-        word_at(s, at + 16),
-    ]
-}
-
-// The first row, where bytes of it may be past the end.
-fn first_short(s: &[u8]) -> Ext
-    ensures { λ r. ⌜ r ≡ extAt (now (s .entry)) 0 ⌝ }
-{
-    Ext {
-        start: word_at(s, 0),
-        add: word_at(s, 4),
-        mul: word_at(s, 8),
-        peq: word_at(s, 12),
-        len: word_at(s, 16),
-        idxA: word_at(s, 20),
-        idxB: word_at(s, 24),
-        idxR: word_at(s, 28),
-        be: word_at(s, 32),
-        base: word_at(s, 36),
-        vA: five_short(s, 40),
-        vB: five_short(s, 60),
-        comp: five_short(s, 80),
-        res: five_short(s, 100),
-    }
-}
 
 fn five_inside(s: &[u8], at: usize) -> [u32; 5]
     requires { ⌜ at + 20 ≤ length (now s) ⌝ }
@@ -56,13 +19,6 @@ fn five_inside(s: &[u8], at: usize) -> [u32; 5]
         word_inside(s, at + 12),
         word_inside(s, at + 16),
     ]
-}
-
-// The row where bytes of it may be past the end.
-fn ext_near_end(s: &[u8], at: usize) -> Ext
-    ensures { λ r. ⌜ r ≡ extAt (now (s .entry)) at ⌝ }
-{
-    first_short(rest(s, at))
 }
 
 // A row whose 120 bytes are there: it is read with no test.
@@ -88,19 +44,6 @@ pub fn ext_inside(s: &[u8], at: usize) -> Ext
         comp: five_inside(s, at + 80),
         res: five_inside(s, at + 100),
     }
-}
-
-// The extension row that starts at a byte; bytes past the end count as 0. Of a part of 120 bytes no test is left once it is compiled.
-pub fn ext_row(s: &[u8], at: usize) -> Ext
-    ensures { λ r. ⌜ r ≡ extAt (now (s .entry)) at ⌝ }
-{
-    if s.len() < 120 {
-        return ext_near_end(s, at);
-    }
-    if s.len() - 120 < at {
-        return ext_near_end(s, at);
-    }
-    ext_inside(s, at)
 }
 
 // Five words from a byte on.

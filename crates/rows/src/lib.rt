@@ -3,10 +3,8 @@ mod execution;
 mod extension;
 
 pub use execution::exec_inside;
-pub use execution::exec_row;
 pub use execution::put_exec;
 pub use extension::ext_inside;
-pub use extension::ext_row;
 pub use extension::put_ext;
 
 // A row of the execution table: 8 words in this order.

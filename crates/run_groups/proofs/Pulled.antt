@@ -54,7 +54,7 @@ bit-small : (x : ℕ) → IsBit x → x ≤ 1
 bit-small x (inl z) = omega arith
 bit-small x (inr one) = omega arith
 
-bool-small : (be : Bool) → bit be ≤ 1
+pub bool-small : (be : Bool) → bit be ≤ 1
 bool-small true = omega arith
 bool-small false = omega arith
 
@@ -64,13 +64,13 @@ data-digits Add be n = refl
 data-digits Mul be n = refl
 data-digits Peq be n = refl
 
-record Small (op : Op) : Type 0 where
-  add : flagAdd op ≤ 1
-  mul : flagMul op ≤ 1
-  peq : flagPeq op ≤ 1
-  one : flagAdd op + flagMul op + flagPeq op ≡ 1
+pub record Small (op : Op) : Type 0 where
+  pub add : flagAdd op ≤ 1
+  pub mul : flagMul op ≤ 1
+  pub peq : flagPeq op ≤ 1
+  pub one : flagAdd op + flagMul op + flagPeq op ≡ 1
 
-small : (op : Op) → Small op
+pub small : (op : Op) → Small op
 small Add = omega arith
 small Mul = omega arith
 small Peq = omega arith

@@ -5,7 +5,7 @@ use mathlib.Core.Bool.{Bool, true, false}
 use mathlib.Core.List.{List, [], _∷_}
 use Prim.Native.Nat.{ℕ, _+_, _≤_, _<_, _^_}
 use native.Mathlib.Omega.{arith}
-use lib.Dec.{T, eqb, ltb, eqb→eq, ltb→lt, lit<}
+use lib.Dec.{T, eqb, eqb→eq, lit<}
 use Rattle.word.specs.Word.{p, IsWord, _+ₚ_, _-ₚ_, _*ₚ_}
 use Rattle.word.specs.Element.{_⟨_⟩, IsElement, _+ₑ_, _*ₑ_}
 use Rattle.word.proofs.Lists.{_∷≡_}
@@ -20,26 +20,21 @@ use Rattle.rules.specs.Extension.{extRules, selected, compTail}
 use Rattle.rules.specs.Satisfies.{All}
 use Rattle.machine.specs.Extension.{termOf, joined}
 use Rattle.tables.specs.Groups.{leftIndex}
-use Rattle.word.proofs.Tests.{both, apart}
+use Rattle.word.proofs.Tests.{apart}
+use Rattle.run_steps.proofs.Operands.{looked}
 use Rattle.run_groups.proofs.Words.{two-taken, one-factor, one-scale, equal-elements, two-elements-taken}
 use Rattle.run_groups.proofs.Meaning.{RowWords, FiveCells, IsBit, Looked, Bits, flagOf, restOf, GoesOn, Meaning}
-
--- a lookup
-one-cell : (g : Given) (addr x : ℕ) → T (looksUp g addr x) → (addr < g .size) × (x ≡ g .cell addr)
-one-cell g addr x t =
-    let t = both (ltb addr (g .size)) (eqb x (g .cell addr)) t in
-    (ltb→lt addr (g .size) (t .0), eqb→eq x (g .cell addr) (t .1))
 
 five-cells : (g : Given) (addr : ℕ) (a : List ℕ) → IsElement a → T (looksUpFive g addr a) → FiveCells g addr a
 five-cells g addr a ea t =
     let (t₀, (t₁, (t₂, (t₃, t₄)))) =
     apart (looksUp g addr (a ⟨ 0 ⟩)) (looksUp g (addr + 1) (a ⟨ 1 ⟩) ∷ looksUp g (addr + 2) (a ⟨ 2 ⟩) ∷ looksUp g (addr + 3) (a ⟨ 3 ⟩) ∷ looksUp g (addr + 4) (a ⟨ 4 ⟩) ∷ []) t in
-    let last = one-cell g (addr + 4) (a ⟨ 4 ⟩) t₄ in
+    let last = looked g (addr + 4) (a ⟨ 4 ⟩) t₄ in
     record {
-      exist = omega (arith, last .0);
+      exist = omega (arith, last .exists);
       hold =
           its-words a (ea .five-long)
-          ∙ (one-cell g _ _ t₀ .1 ∷≡ one-cell g _ _ t₁ .1 ∷≡ one-cell g _ _ t₂ .1 ∷≡ one-cell g _ _ t₃ .1 ∷≡ last .1 ∷≡ refl);
+          ∙ (looked g _ _ t₀ .holds ∷≡ looked g _ _ t₁ .holds ∷≡ looked g _ _ t₂ .holds ∷≡ looked g _ _ t₃ .holds ∷≡ last .holds ∷≡ refl);
     }
 
 -- 1 - next(start) is 1 inside a group
@@ -65,7 +60,7 @@ module _ (g : Given) (x y : Ext) (size : g .size ≤ 2 ^ 29) (wx : RowWords x) (
   unfolding extRules
   lookups h =
       record {
-        base = one-cell g (x .idxA) (x .base) (h .0) .1;
+        base = looked g (x .idxA) (x .base) (h .0) .holds;
         vA = five-cells g (x .idxA) (x .vA) (wx .vA) (h .1 .0);
         vB = five-cells g (x .idxB) (x .vB) (wx .vB) (h .1 .1 .0);
         res = five-cells g (x .idxR) (x .res) (wx .res) (h .1 .1 .1 .0);

@@ -10,7 +10,7 @@ use native.Mathlib.Nat.{zero-mul, sub-zero, add-zero}
 use native.Mathlib.Numerals.{add-one}
 use native.Mathlib.Omega.{arith}
 use borrow.Author.Tests.{ne-eqb}
-use lib.Dec.{eqb, eqb·suc-zero, lit<}
+use lib.Dec.{eqb, eqb·suc-zero}
 use Rattle.word.specs.Word.{p, IsWord, _+ₚ_}
 use Rattle.form.specs.Data.{dataOf, dataWord, bit}
 use Rattle.form.specs.declared.Op.{Op}
@@ -24,7 +24,7 @@ use Rattle.machine.specs.Extension.{rightAt, leftSpan, termOf, joined, result}
 use Rattle.tables.specs.Groups.{flagAdd, flagMul, flagPeq, leftIndex, groupRow}
 use Rattle.run_groups.proofs.Meaning.{RowWords, IsBit, flagOf, restOf, GoesOn, Meaning}
 use Rattle.run_groups.proofs.Words.{cells-element}
-use Rattle.run_groups.proofs.Pulled.{data-aux}
+use Rattle.run_groups.proofs.Pulled.{bool-small, small, data-aux}
 use Rattle.run_groups.proofs.Written.{written}
 use Rattle.run_groups.proofs.Fold.{rest-inside, rest-end, selected-left}
 use Rattle.run_groups.proofs.Legal.{Legal, facts, result-element}
@@ -41,18 +41,10 @@ bit-is-bit : (b : Bool) → IsBit (bit b)
 bit-is-bit true = inr refl
 bit-is-bit false = inl refl
 
-bit-word : (b : Bool) → IsWord (bit b)
-bit-word true = lit< tt
-bit-word false = lit< tt
-
 flags-are-bits : (op : Op) → IsBit (flagAdd op) × IsBit (flagMul op) × IsBit (flagPeq op)
 flags-are-bits Add = (inr refl, inl refl, inl refl)
 flags-are-bits Mul = (inl refl, inr refl, inl refl)
 flags-are-bits Peq = (inl refl, inl refl, inr refl)
-
-is-word : (x : ℕ) → IsBit x → IsWord x
-is-word x (inl z) = omega arith
-is-word x (inr one) = omega arith
 
 -- only the operation's own flag is set
 own-op : (op op' : Op) (x : Ext) → x .add ≡ flagAdd op → x .mul ≡ flagMul op → x .peq ≡ flagPeq op → flagOf op' x ≡ 1 → op' ≡ op
@@ -84,11 +76,6 @@ left-on true false a j e = absurd (omega arith)
 left-on false true a j e = absurd (omega arith)
 left-on false false a j e = omega arith
 
-one-flag : (op : Op) → 1 * (flagAdd op + flagMul op + flagPeq op) ≡ 1
-one-flag Add = refl
-one-flag Mul = refl
-one-flag Peq = refl
-
 left-first : (be : Bool) (a : ℕ) → leftIndex be a 0 ≡ a
 left-first true a = omega arith
 left-first false a = omega arith
@@ -107,17 +94,17 @@ module _ {g : Given} {op : Op} {be : Bool} {n a b c : ℕ} (k : Called g op be n
   unfolding groupRow
   row-words j h =
       let i = indexes j h in
-      let f = flags-are-bits op in
+      let f = small op in
       record {
-        start = bit-word (eqb j 0);
-        add = is-word (flagAdd op) (f .0);
-        mul = is-word (flagMul op) (f .1);
-        peq = is-word (flagPeq op) (f .2);
+        start = omega (arith, bool-small (eqb j 0));
+        add = omega (arith, f .add);
+        mul = omega (arith, f .mul);
+        peq = omega (arith, f .peq);
         len = omega (arith, k .not-many);
         idxA = omega (arith, k .small-memory);
         idxB = omega (arith, k .small-memory);
         idxR = omega (arith, k .small-memory);
-        be = bit-word be;
+        be = omega (arith, bool-small be);
         base = k .words (leftIndex be a j) (omega arith);
         vA = cells-element g (k .words) (leftIndex be a j) (i .0);
         vB = cells-element g (k .words) (b + 5 * j) (i .1);
@@ -201,7 +188,7 @@ module _ (cell : ℕ → ℕ) (op : Op) (be : Bool) (n a b c : ℕ) where
 
   pub pulls-first : pulls (groupRow cell op be n a b c 0) ≡ 1
   unfolding groupRow
-  pulls-first = one-flag op
+  pulls-first = omega (arith, small op .one)
 
   pub pulls-later : (j : ℕ) → 0 < j → pulls (groupRow cell op be n a b c j) ≡ 0
   unfolding groupRow

@@ -8,11 +8,12 @@ use lib.Dec.{T, eqb→eq}
 use Rattle.word.specs.Word.{IsWord, _+ₚ_, _-ₚ_, _*ₚ_}
 use Rattle.word.specs.Element.{_⟨_⟩, IsElement, element, _+ₑ_, _-ₑ_, _·ₑ_}
 use Rattle.word.proofs.Lists.{_∷≡_}
-use Rattle.word.proofs.WordLaws.{difference-self, product-comm, product-zero, product-one}
+use Rattle.word.proofs.WordLaws.{difference-self, product-zero}
 use Rattle.word.proofs.ElementLaws.{its-words, five-words, element-sum-comm, element-sum-zero, scale-one, scale-zero}
 use Rattle.rules.specs.Given.{Given, zero?, zeroElement?}
 use Rattle.machine.specs.Extension.{elementAt}
 use Rattle.word.proofs.Tests.{apart, eq→eqb}
+use Rattle.run_steps.proofs.Words.{on-times}
 
 -- what is left of a word after two is 0 exactly where it is their sum
 pub two-taken : (x y z : ℕ) → IsWord x → x -ₚ y -ₚ z ≡ 0 → x ≡ y +ₚ z
@@ -25,12 +26,7 @@ take-two x y z e = omega arith
 
 -- a rule whose factor is 1 says that the other is 0, and one with a factor 0 holds
 pub one-factor : (f x : ℕ) → f ≡ 1 → IsWord x → T (zero? (f *ₚ x)) → x ≡ 0
-one-factor f x one w t =
-    let z : f *ₚ x ≡ 0 = eqb→eq (f *ₚ x) 0 t in
-    sym (product-one x w) ∙ product-comm x 1 ∙ ap (λ (n : ℕ). n *ₚ x) (sym one) ∙ z
-
-pub first-zero : (f x : ℕ) → f ≡ 0 → T (zero? (f *ₚ x))
-first-zero f x z = eq→eqb (ap (λ (n : ℕ). n *ₚ x) z ∙ product-comm 0 x ∙ product-zero x)
+one-factor f x one w t = sym (on-times x one w) ∙ eqb→eq _ 0 t
 
 pub second-zero : (f x : ℕ) → x ≡ 0 → T (zero? (f *ₚ x))
 second-zero f x z = eq→eqb (ap (λ (n : ℕ). f *ₚ n) z ∙ product-zero f)

@@ -6,7 +6,7 @@ use mathlib.Core.Bool.{Bool, true, false}
 use mathlib.Core.List.{List, [], _∷_}
 use Prim.Native.Nat.{ℕ, _+_, _<_}
 use native.Mathlib.Omega.{arith}
-use lib.Dec.{T, eqb, ltb, lt→ltb}
+use lib.Dec.{T}
 use Rattle.word.specs.Word.{_+ₚ_, _-ₚ_, _*ₚ_}
 use Rattle.word.specs.Element.{_⟨_⟩, element, _·ₑ_}
 use Rattle.word.proofs.WordLaws.{difference-self}
@@ -18,18 +18,20 @@ use Rattle.rules.specs.Extension.{extRules}
 use Rattle.rules.specs.Satisfies.{All}
 use Rattle.machine.specs.Extension.{elementAt}
 use Rattle.tables.specs.Groups.{leftIndex}
-use Rattle.word.proofs.Tests.{and, together, eq→eqb}
-use Rattle.run_groups.proofs.Words.{take-two, first-zero, second-zero, first-scale, second-scale, element-difference-self, take-two-elements}
+use Rattle.word.proofs.Tests.{together, _also_}
+use Rattle.run_steps.proofs.Words.{holds-off}
+use Rattle.run_steps.proofs.Operands.{looks-up}
+use Rattle.run_groups.proofs.Words.{take-two, second-zero, first-scale, second-scale, element-difference-self, take-two-elements}
 use Rattle.run_groups.proofs.Meaning.{FiveCells, IsBit, Meaning}
-
-one-cell : (g : Given) (addr x : ℕ) → addr < g .size → x ≡ g .cell addr → T (looksUp g addr x)
-one-cell g addr x below e = and (ltb addr (g .size)) (eqb x (g .cell addr)) (lt→ltb addr (g .size) below) (eq→eqb e)
 
 five-cells : (g : Given) (addr : ℕ) (a : List ℕ) → FiveCells g addr a → T (looksUpFive g addr a)
 five-cells g addr a f =
     together (looksUp g addr (a ⟨ 0 ⟩)) (looksUp g (addr + 1) (a ⟨ 1 ⟩) ∷ looksUp g (addr + 2) (a ⟨ 2 ⟩) ∷ looksUp g (addr + 3) (a ⟨ 3 ⟩) ∷ looksUp g (addr + 4) (a ⟨ 4 ⟩) ∷ [])
-    (one-cell g _ _ (omega arith) (hold 0), (one-cell g _ _ (omega arith) (hold 1), (one-cell g _ _ (omega arith) (hold 2), (one-cell g _ _ (omega arith) (hold 3), one-cell g _ _ (omega arith) (hold 4)))))
+    (cell (omega arith) (hold 0) also cell (omega arith) (hold 1) also cell (omega arith) (hold 2) also cell (omega arith) (hold 3) also cell (omega arith) (hold 4))
   where
+    cell : {at x : ℕ} → at < g .size → x ≡ g .cell at → T (looksUp g at x)
+    cell below e = looks-up g _ _ (record { exists = below; holds = e })
+
     hold : (k : ℕ) → a ⟨ k ⟩ ≡ elementAt (g .cell) addr ⟨ k ⟩
     hold k = ap (λ (l : List ℕ). l ⟨ k ⟩) (f .hold)
 
@@ -46,10 +48,10 @@ under f a (inr one) e = second-scale f a (e one)
 -- a rule that holds inside a group alone, and the one that holds at its end alone
 within : (s x : ℕ) → IsBit s → (s ≡ 0 → x ≡ 0) → T (zero? ((1 -ₚ s) *ₚ x))
 within s x (inl z) e = second-zero (1 -ₚ s) x (e z)
-within s x (inr one) e = first-zero (1 -ₚ s) x (rw one (difference-self 1))
+within s x (inr one) e = holds-off x (rw one (difference-self 1))
 
 at-end : (s x : ℕ) → IsBit s → (s ≡ 1 → x ≡ 0) → T (zero? (s *ₚ x))
-at-end s x (inl z) e = first-zero s x z
+at-end s x (inl z) e = holds-off x z
 at-end s x (inr one) e = second-zero s x (e one)
 
 same : (x y : ℕ) → y ≡ x → x -ₚ y ≡ 0
@@ -68,67 +70,26 @@ pub written : (g : Given) (x y : Ext) → IsBit (y .start) → Meaning g x y →
 unfolding extRules
 written g x y s m =
     let l = m .looked in
-    let b = m .bits in (
-      one-cell g (x .idxA) (x .base) (omega arith) (l .base),
-      (
-        five-cells g (x .idxA) (x .vA) (l .vA),
-        (
-          five-cells g (x .idxB) (x .vB) (l .vB),
-          (
-            five-cells g (x .idxR) (x .res) (l .res),
-            (
-              is-bit (x .be) (b .be),
-              (
-                is-bit (x .start) (b .start),
-                (
-                  is-bit (x .add) (b .add),
-                  (
-                    is-bit (x .mul) (b .mul),
-                    (
-                      is-bit (x .peq) (b .peq),
-                      (
-                        under (x .add) _ (b .add) (λ one. take-two-elements _ _ _ (m .accumulates Add one)),
-                        (
-                          under (x .mul) _ (b .mul) (λ one. take-two-elements _ _ _ (m .accumulates Mul one)),
-                          (
-                            under (x .peq) _ (b .peq) (λ one. element-difference-self _ _ (m .accumulates Peq one)),
-                            (
-                              under (x .start) _ (b .start) (λ one. element-difference-self _ _ (m .ends-in-result one)),
-                              (
-                                within (y .start) _ s (λ z. take-two (x .len) (y .len) 1 (m .goes-on z .len)),
-                                (
-                                  within (y .start) _ s (λ z. same _ _ (m .goes-on z .be)),
-                                  (
-                                    within (y .start) _ s (λ z. same _ _ (m .goes-on z .add)),
-                                    (
-                                      within (y .start) _ s (λ z. same _ _ (m .goes-on z .mul)),
-                                      (
-                                        within (y .start) _ s (λ z. same _ _ (m .goes-on z .peq)),
-                                        (
-                                          within (y .start) _ s (λ z. stride (x .be) (x .idxA) (y .idxA) (b .be) (m .goes-on z .idxA)),
-                                          (
-                                            within (y .start) _ s (λ z. on (x .idxB) (y .idxB) 5 (m .goes-on z .idxB)),
-                                            (
-                                              at-end (y .start) _ s (λ one. same (x .len) 1 (sym (m .ends one))),
-                                              tt,
-                                            ),
-                                          ),
-                                        ),
-                                      ),
-                                    ),
-                                  ),
-                                ),
-                              ),
-                            ),
-                          ),
-                        ),
-                      ),
-                    ),
-                  ),
-                ),
-              ),
-            ),
-          ),
-        ),
-      ),
-    )
+    let b = m .bits in
+    looks-up g (x .idxA) (x .base) (record { exists = omega arith; holds = l .base })
+    also five-cells g (x .idxA) (x .vA) (l .vA)
+    also five-cells g (x .idxB) (x .vB) (l .vB)
+    also five-cells g (x .idxR) (x .res) (l .res)
+    also is-bit (x .be) (b .be)
+    also is-bit (x .start) (b .start)
+    also is-bit (x .add) (b .add)
+    also is-bit (x .mul) (b .mul)
+    also is-bit (x .peq) (b .peq)
+    also under (x .add) _ (b .add) (λ one. take-two-elements _ _ _ (m .accumulates Add one))
+    also under (x .mul) _ (b .mul) (λ one. take-two-elements _ _ _ (m .accumulates Mul one))
+    also under (x .peq) _ (b .peq) (λ one. element-difference-self _ _ (m .accumulates Peq one))
+    also under (x .start) _ (b .start) (λ one. element-difference-self _ _ (m .ends-in-result one))
+    also within (y .start) _ s (λ z. take-two (x .len) (y .len) 1 (m .goes-on z .len))
+    also within (y .start) _ s (λ z. same _ _ (m .goes-on z .be))
+    also within (y .start) _ s (λ z. same _ _ (m .goes-on z .add))
+    also within (y .start) _ s (λ z. same _ _ (m .goes-on z .mul))
+    also within (y .start) _ s (λ z. same _ _ (m .goes-on z .peq))
+    also within (y .start) _ s (λ z. stride (x .be) (x .idxA) (y .idxA) (b .be) (m .goes-on z .idxA))
+    also within (y .start) _ s (λ z. on (x .idxB) (y .idxB) 5 (m .goes-on z .idxB))
+    also at-end (y .start) _ s (λ one. same (x .len) 1 (sym (m .ends one)))
+    also tt

@@ -3,6 +3,7 @@
 use Prim.Native.Nat.{ℕ}
 use lib.Dec.{T, ltb}
 use Rattle.word.specs.Word.{_+ₚ_, _-ₚ_, _*ₚ_}
+use Rattle.word.proofs.Tests.{_also_}
 use Rattle.form.specs.declared.Instruction.{Instruction}
 use Rattle.rows.specs.declared.Exec.{Exec}
 use Rattle.rules.specs.Given.{Given, zero?, looksUp}
@@ -61,25 +62,7 @@ module _ (g : Given) (x y : Exec) (i : Instruction) where
   unfolding execRules
   numbered r =
       let k = r .values .kind in
-      let n = r .values .next in (
-        r .in-program,
-        (
-          r .a .looks-up,
-          (
-            r .b .looks-up,
-            (
-              r .c .looks-up,
-              (
-                r .a .at-cell,
-                (
-                  r .b .at-cell,
-                  (
-                    r .c .at-cell,
-                    (k .sums, (k .multiplies, (k .points, (k .finds, (n .one, (n .lands, (n .enters, (n .goes-on, (n .keeps, tt))))))))),
-                  ),
-                ),
-              ),
-            ),
-          ),
-        ),
-      )
+      let n = r .values .next in
+      r .in-program also r .a .looks-up also r .b .looks-up also r .c .looks-up also r .a .at-cell also r .b .at-cell also r .c .at-cell
+      also k .sums also k .multiplies also k .points also k .finds
+      also n .one also n .lands also n .enters also n .goes-on also n .keeps also tt

@@ -5,13 +5,13 @@ use mathlib.Core.List.{List, []}
 use lib.Dec.{eqb}
 use Rattle.label.specs.declared.Reading.{Reading}
 use Rattle.label.specs.declared.Recipe.{Recipe}
-use Rattle.program_build.specs.Built.{accepted}
-use Rattle.program_build.specs.Recipes.{tabledOf, partsOf}
+use Rattle.answer.specs.Verdicts.{accepted}
+use Rattle.program_build.specs.Recipes.{tabledOf, fourParts}
 
 -- parts 1 to 4 in order; nothing where the tabler refuses
-unfoldable pub tablesOf : Recipe → List ℕ
-tablesOf r = cond (accepted (tabledOf r)) (partsOf r) []
+unfoldable pub tablesWritten : Recipe → List ℕ
+tablesWritten r = cond (accepted (tabledOf r)) (fourParts r) []
 
 -- nothing for a bad label or another m than 10
-unfoldable pub outputOf : Reading → List ℕ
-outputOf r = cond (accepted (r .answer)) (cond (eqb (r .recipe .m) 10) (tablesOf (r .recipe)) []) []
+unfoldable pub tableOutput : Reading → List ℕ
+tableOutput r = cond (accepted (r .answer)) (cond (eqb (r .recipe .m) 10) (tablesWritten (r .recipe)) []) []

@@ -1,6 +1,6 @@
 // A recipe's parts, made and tabled.
+use answer::accepted;
 use label::Recipe;
-use program_build::accepted;
 use program_build::build;
 use program_build::exec_space;
 use program_build::ext_space;
@@ -15,7 +15,7 @@ ghost use lib.ListN.{length};
 ghost use Rattle.label.specs.Label.{ranged};
 ghost use Rattle.program_build.specs.Output.{Fills};
 ghost use Rattle.program_build.specs.Inner.{Spaces};
-ghost use Rattle.table.specs.Table.{tablesOf};
+ghost use Rattle.table.specs.Table.{tablesWritten};
 
 // The four parts in order, at the front of the buffer.
 fn put_parts(program: &[u8], memory: &[u8], exec: &[u8], ext: &[u8], out: &mut [u8]) -> usize
@@ -38,7 +38,7 @@ fn tables(
     out: &mut [u8],
 ) -> usize
     requires { ⌜ Spaces recipe (length (now program)) (length (now memory)) (length (now exec)) (length (now ext)) × (49008 ≤ length (now out)) ⌝ }
-    ensures { λ r. ⌜ Fills (tablesOf recipe) (now (out .entry)) (now (out .exit)) r ⌝ }
+    ensures { λ r. ⌜ Fills (tablesWritten recipe) (now (out .entry)) (now (out .exit)) r ⌝ }
 {
     if !accepted(build(recipe, program, memory, exec, ext)) {
         return 0;
@@ -49,7 +49,7 @@ fn tables(
 // The same in buffers of its own.
 pub fn tables_in_space(recipe: Recipe, out: &mut [u8]) -> usize
     requires { ⌜ (ranged recipe ≡ true) × (recipe .m ≡ 10) × (49008 ≤ length (now out)) ⌝ }
-    ensures { λ r. ⌜ Fills (tablesOf recipe) (now (out .entry)) (now (out .exit)) r ⌝ }
+    ensures { λ r. ⌜ Fills (tablesWritten recipe) (now (out .entry)) (now (out .exit)) r ⌝ }
 {
     let mut program = program_space();
     let mut memory = memory_space();

@@ -6,13 +6,14 @@ use mathlib.Core.List.{List, [], _∷_}
 use lib.Dec.{eqb}
 use lib.ListN.{length}
 use Rattle.rows.specs.Rows.{putRow}
+use Rattle.answer.specs.Verdicts.{accepted}
 use Rattle.answer.specs.declared.Answer.{Answer}
 use Rattle.judge_spec.specs.Judged.{judgeOf}
 use Rattle.answer.specs.declared.Answer.the-variants.{Buffer}
 use Rattle.label.specs.declared.Recipe.{Recipe}
 use Rattle.label.specs.declared.Reading.{Reading}
 use Rattle.label.specs.Reading.{Reads}
-use Rattle.reply.specs.Reply.{verdictOf, wordsOf}
+use Rattle.reply.specs.Reply.{verdictOf, answerWords}
 
 -- the judge's answer to what a call hands in
 abbrev pub answerTo : List ℕ → List ℕ → ℕ → ℕ → List ℕ → List ℕ → Answer
@@ -27,9 +28,6 @@ recipeWords r = r .seed % 2 ^ 32 ∷ r .seed / 2 ^ 32 ∷ r .m ∷ r .n ∷ []
 abbrev pub bothFit : List ℕ → List ℕ → Bool
 bothFit answer recipe = eqb (length answer) 16 && eqb (length recipe) 16
 
-abbrev pub accepted : Answer → Bool
-accepted a = eqb (verdictOf a) 0
-
 -- a buffer where a test holds and as it was where it doesn't
 abbrev pub held : Bool → List ℕ → List ℕ → List ℕ
 held fit old words = cond fit (putRow old 16 words) old
@@ -39,5 +37,5 @@ pub record LabelCall (text answer recipe answerAfter recipeAfter : List ℕ) (re
   pub reading : Reading
   pub reads : Reads text reading
   pub verdict : returned ≡ cond (bothFit answer recipe) (verdictOf (reading .answer)) (verdictOf Buffer)
-  pub answered : answerAfter ≡ held (bothFit answer recipe) answer (wordsOf (reading .answer))
+  pub answered : answerAfter ≡ held (bothFit answer recipe) answer (answerWords (reading .answer))
   pub written : recipeAfter ≡ held (bothFit answer recipe && accepted (reading .answer)) recipe (recipeWords (reading .recipe))

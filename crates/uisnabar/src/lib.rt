@@ -1,13 +1,16 @@
 // The C library: the judge and the label reader, as include/uisnabar.h declares them.
 use answer::Answer;
+use answer::accepted;
 use answer::four_numbers;
 use label::Recipe;
 use label::read_label;
 use reply::put_four;
 use reply::reply;
 ghost use mathlib.Core.Path.{_≡_};
+ghost use lib.ListN.{length};
+ghost use Rattle.answer.specs.Verdicts.{accepted};
 ghost use Rattle.reply.specs.Reply.{returned, replied};
-ghost use Rattle.uisnabar.specs.Calls.{answerTo, recipeWords, accepted, held, LabelCall};
+ghost use Rattle.uisnabar.specs.Calls.{answerTo, recipeWords, held, LabelCall};
 
 // The judge. ANSWER comes first, so nothing is judged for a caller who cannot be told.
 #[no_mangle]
@@ -32,10 +35,10 @@ pub extern "C" fn uisnabar_judge(
 
 // The recipe's bytes, where the label was accepted.
 fn put_recipe(recipe: &mut [u8], a: Answer, r: Recipe)
+    requires { ⌜ length (now recipe) ≡ 16 ⌝ }
     ensures { λ _. ⌜ now (recipe .exit) ≡ held (accepted a) (now (recipe .entry)) (recipeWords r) ⌝ }
 {
-    let four = four_numbers(a);
-    if four.verdict == 0 {
+    if accepted(a) {
         put_four(
             recipe,
             (r.seed % 4294967296) as u32,

@@ -7,19 +7,8 @@ use native.Mathlib.Omega.{arith}
 use lib.Dec.{lit<}
 use lib.ListN.{length, getD}
 use Rattle.word.specs.Word.{IsWord, _+ₚ_}
-use Rattle.word.specs.Element.{_⟨_⟩, IsElement, element, _+ₑ_, _-ₑ_, nine, folded, _·ₑ_, _*ₑ_, peqₑ}
-use Rattle.word.proofs.WordLaws.{
-  sum-word,
-  difference-word,
-  product-word,
-  sum-comm,
-  sum-assoc,
-  sum-zero,
-  difference-zero,
-  product-comm,
-  product-one,
-  product-zero,
-}
+use Rattle.word.specs.Element.{_⟨_⟩, IsElement, element, _+ₑ_, _-ₑ_, nine, folded, _·ₑ_, _*ₑ_}
+use Rattle.word.proofs.WordLaws.{sum-word, difference-word, sum-comm, sum-assoc, sum-zero, difference-zero, product-comm, product-one, product-zero}
 use Rattle.word.proofs.Lists.{_∷≡_}
 
 pub zero-word : IsWord 0
@@ -52,14 +41,6 @@ difference-element a b =
 pub product-element : (a b : List ℕ) → IsElement (a *ₑ b)
 unfolding _*ₑ_ folded
 product-element a b = five-words (difference-word _ _) (sum-word _ _) (difference-word _ _) (difference-word _ _) (difference-word _ _)
-
-pub scale-element : (x : ℕ) (a : List ℕ) → IsElement (x ·ₑ a)
-unfolding _·ₑ_
-scale-element x a = five-words (product-word _ _) (product-word _ _) (product-word _ _) (product-word _ _) (product-word _ _)
-
-pub peq-element : (a b : List ℕ) → IsElement (peqₑ a b)
-unfolding peqₑ
-peq-element a b = sum-element _ _
 
 -- an element is its five words
 pub its-words : (a : List ℕ) → length a ≡ 5 → a ≡ a ⟨ 0 ⟩ ∷ a ⟨ 1 ⟩ ∷ a ⟨ 2 ⟩ ∷ a ⟨ 3 ⟩ ∷ a ⟨ 4 ⟩ ∷ []

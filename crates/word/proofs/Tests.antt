@@ -87,3 +87,8 @@ by-equal m n f g = cases (eqb m n) (λ t. f (eqb-true m n t)) (λ t. g (eqb-fals
 pub by-test : {A : Type 0} (P : A → Type 0) (b : Bool) {x y : A} → (b ≡ true → P x) → (b ≡ false → P y) → P (cond b x y)
 by-test P true t f = t refl
 by-test P false t f = f refl
+
+-- facts one after the other, with no bracket
+infixr 2 _also_
+pub _also_ : {A B : Type 0} → A → B → A × B
+a also b = (a, b)

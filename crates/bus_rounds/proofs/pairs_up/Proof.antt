@@ -11,7 +11,8 @@ use borrow.Author.Tests.{not-false}
 use borrow.Author.Count.{below-more}
 use Rattle.rules.specs.Bus.{Tuple, pushedTo, pulledTo}
 use Rattle.rules.specs.Sizes.{given, tables}
-use Rattle.bus_rounds.specs.Slots.{hashOf, classOf, Room}
+use Rattle.bus_tuples.specs.Sent.{hashOf}
+use Rattle.bus_rounds.specs.Slots.{classOf, Room}
 use Rattle.bus_rounds.proofs.pairs_up.Statement.{statement}
 use Rattle.bus_rounds.proofs.pairs_up.Tie as tie
 
@@ -42,8 +43,8 @@ returns-3 : tie.Need-returns-3 Inv-loop μ-loop
 unfolding classOf
 returns-3 c =
     let loop = c .before .loop in
-    let rounds = c .before .before .starts .result / 16385 + 1 in
-    λ _ σ. loop .inv .3 (classOf rounds σ) (omega (arith, mod-lt (hashOf σ / 17203) (loop .inv .1))) σ refl
+    let rounds = c .before .before .starts .result / 6145 + 1 in
+    λ _ σ. loop .inv .3 (classOf rounds σ) (omega (arith, mod-lt (hashOf σ / 6553) (loop .inv .1))) σ refl
 
 pub pairs-up-spec : {M : Type 1} → statement M
 pairs-up-spec =

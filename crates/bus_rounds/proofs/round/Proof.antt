@@ -21,8 +21,8 @@ returns-3 c =
     let put-rows = c .before .before .before .before .before .before .before .before .put-rows in
     let take-rows = c .before .before .before .before .take-rows in
     let empty =
-    none-put (start .args .ext .now) (start .args .span) (start .args .rounds) (start .args .class) _ (length-replicate {A = ℕ} 17203 0)
-    (λ s h. getD-replicate 17203 s 0 0 h) in
+    none-put (start .args .ext .now) (start .args .span) (start .args .rounds) (start .args .class) _ (length-replicate {A = ℕ} 6553 0)
+    (λ s h. getD-replicate 6553 s 0 0 h) in
     let put = put-rows .ensures (not-false _ (c .before .before .before .before .before .before .before .if1 .left)) empty in
     let taken = take-rows .ensures (not-false _ (c .before .before .before .if2 .left)) (none-taken (start .args .program .now) (start .args .exec .now) refl put) in
     λ e. all-taken taken (c .none-waits .ensures e)

@@ -1,10 +1,13 @@
 -- Each answer is the case of the tests that led to it.
 use borrow.Author.Needs.{needs}
 use borrow.Author.Tests.{lt-ltb, le-ltb}
+use mathlib.Core.Path.{_≡_, sym, _∙_}
 use mathlib.Core.List.{[]}
+use Prim.Native.Nat.{_-_}
 use native.Mathlib.Omega.{arith}
 use Rattle.rules.specs.Sizes.{given, tables}
-use Rattle.bus_windows.proofs.Joined.{push-first, push-none, pull-first, pull-none}
+use Rattle.judge_spec.specs.Judged.{firstPull}
+use Rattle.bus_windows.proofs.Joined.{first-push, first-pull}
 use Rattle.bus_windows.proofs.count_bus.Statement.{statement}
 use Rattle.bus_windows.proofs.count_bus.Tie as tie
 
@@ -14,37 +17,45 @@ returns c =
     let found = c .before .first-unequal in
     let g = given (start .args .program .now) [] in
     let t = tables (start .args .exec .now) (start .args .ext .now) in
-    rw (push-first g t (found .result) (found .ensures) (c .if1 .taken), lt-ltb _ _ (c .if1 .taken))
+    rw (sym (found .ensures ∙ first-push g t), lt-ltb _ _ (c .if1 .taken))
+
+sub-t12 : tie.Need-sub-t12
+sub-t12 c =
+    let start = c .before .before .before .before .before .before .before in
+    let g = given (start .args .program .now) [] in
+    let t = tables (start .args .exec .now) (start .args .ext .now) in
+    omega (arith, c .before .first-unequal2 .ensures ∙ first-pull g t)
 
 returns-2 : tie.Need-returns-2
 returns-2 c =
-    let start = c .before .before .before .before .before .before in
-    let found = c .before .before .first-unequal in
+    let start = c .before .before .before .before .before .before .before in
+    let found = c .before .before .before .first-unequal in
+    let pull = c .before .first-unequal2 in
     let g = given (start .args .program .now) [] in
     let t = tables (start .args .exec .now) (start .args .ext .now) in
-    let past = c .before .if1 .left in
-    rw (
-      push-none g t (found .result) (found .ensures) past,
-      le-ltb (t .height) (t .height) (omega arith),
-      pull-first g t (found .result) (found .ensures) _ (omega arith) (c .if2 .taken),
-      lt-ltb _ _ (c .if2 .taken),
-    )
+    let k : firstPull g t ≡ pull .result - t .height = omega (arith, pull .ensures ∙ first-pull g t) in
+    rw (sym (found .ensures ∙ first-push g t), le-ltb _ _ (c .before .before .if1 .left), k, lt-ltb (pull .result - t .height) (t .extHeight) (omega (arith, k, pull .ensures ∙ first-pull g t)))
 
 returns-3 : tie.Need-returns-3
 returns-3 c =
-    let start = c .before .before .before .before .before .before in
-    let found = c .before .before .first-unequal in
+    let start = c .before .before .before .before .before .before .before in
+    let found = c .before .before .before .first-unequal in
+    let pull = c .before .first-unequal2 in
     let g = given (start .args .program .now) [] in
     let t = tables (start .args .exec .now) (start .args .ext .now) in
-    let past = c .before .if1 .left in
-    rw (
-      push-none g t (found .result) (found .ensures) past,
-      le-ltb (t .height) (t .height) (omega arith),
-      pull-none g t (found .result) (found .ensures) (omega arith),
-      le-ltb (t .extHeight) (t .extHeight) (omega arith),
-    )
+    let k : firstPull g t ≡ pull .result - t .height = omega (arith, pull .ensures ∙ first-pull g t) in
+    rw (sym (found .ensures ∙ first-push g t), le-ltb _ _ (c .before .before .if1 .left), k, le-ltb (pull .result - t .height) (t .extHeight) (omega arith))
 
 pub count-bus-spec : {M : Type 1} → statement M
 count-bus-spec =
     tie.close
-    (tie.spec (λ c κs. search needs) (λ c. search needs) returns (λ c. search needs) returns-2 returns-3)
+    (tie.spec
+    (λ c κs. search needs)
+    (λ c. search needs)
+    returns
+    (λ c. search needs)
+    (λ c κs. search needs)
+    sub-t12
+    (λ c. search needs)
+    returns-2
+    returns-3)

@@ -3,7 +3,6 @@ use mathlib.Core.Path.{sym, _∙_}
 use lib.ListN.{length}
 use Rattle.rules.specs.Sizes.{programFits, memoryFits, execFits, extFits}
 use Rattle.judge_spec.specs.Judged.{judgeOf}
-use native.Mathlib.Omega.{arith}
 use Rattle.inputs.proofs.Fits.{bad-named, all-fit, fitting}
 use borrow.Author.Needs.{needs}
 use Rattle.judge.proofs.judge.Statement.{statement}
@@ -29,8 +28,8 @@ words-answer-requires c κs =
     let bad-part = c .before .bad-part in
     let fit = all-fit (programFits (length (start .args .program .now))) (memoryFits (length (start .args .memory .now)))
     (execFits (length (start .args .exec .now))) (extFits (length (start .args .ext .now))) (sym (bad-part .ensures) ∙ c .if1 .left) in
-    let bounds = fitting (length (start .args .program .now)) (length (start .args .memory .now)) (length (start .args .exec .now)) (length (start .args .ext .now)) (fit .first) (fit .second) (fit .third) (fit .fourth) in
-    (omega (arith, bounds .program-short), omega (arith, bounds .memory-short), omega (arith, bounds .exec-short), omega (arith, bounds .ext-short))
+    fitting (length (start .args .program .now)) (length (start .args .memory .now)) (length (start .args .exec .now)) (length (start .args .ext .now))
+    (fit .first) (fit .second) (fit .third) (fit .fourth)
 
 returns-2 : tie.Need-returns-2
 unfolding judgeOf

@@ -17,16 +17,9 @@ use Rattle.judge_spec.proofs.RuleLaws.{failing-holds, exec-numbered}
 use Rattle.inputs.proofs.Eights.{eight}
 use Rattle.bus_tuples.specs.Order.{pulledBy}
 use Rattle.bus_tuples.proofs.OrderLaws.{pulled-more}
-use Rattle.judge_walks.proofs.Rows.{At, at-first, row-passed, row-fails, rows-end}
+use Rattle.judge_walks.proofs.Rows.{At, at-first, row-passed, row-fails, rows-end, pc-inside}
 use Rattle.judge_walks.proofs.exec_walk.Statement.{statement}
 use Rattle.judge_walks.proofs.exec_walk.Tie as tie
-
--- a row whose rules hold has a pc in the program
-pc-inside : (program memory : List ℕ) (x y : Exec) (i : Instruction) → failing (execRules (given program memory) x y i) ≡ 0 → x .pc < length program / 48
-unfolding execRules
-pc-inside program memory x y i e =
-    let g = given program memory in
-    ltb-true (x .pc) (length program / 48) (is-true _ (failing-holds (execRules g x y i) (exec-numbered g x y i) e .0))
 
 abbrev Inv-loop : tie.InvT-loop
 Inv-loop program memory exec ext n words₀ pulled₀ r₀ words pulled r =

@@ -7,7 +7,7 @@ use Rattle.bus_rounds.proofs.slot.empty_for.Statement.{statement}
 use Rattle.bus_rounds.proofs.slot.empty_for.Tie as tie
 
 abbrev Inv-loop : tie.InvT-loop
-Inv-loop lo hi step s₀ tried₀ s tried = (s < 17203) × (step < 17203)
+Inv-loop lo hi step s₀ tried₀ s tried = (s < 6553) × (step < 6553)
 
 abbrev μ-loop : tie.MeasureT-loop
 μ-loop lo hi step s₀ tried₀ s tried = 2048 - tried

@@ -13,10 +13,10 @@ use Rattle.bus_rounds.proofs.slot.none_waits.Statement.{statement}
 use Rattle.bus_rounds.proofs.slot.none_waits.Tie as tie
 
 abbrev Inv-loop : tie.InvT-loop
-Inv-loop lo hi none₀ s₀ none s = (s ≤ 17203) × (none ≡ true → (j : ℕ) → j < s → live (slotAt lo hi j) ≡ false)
+Inv-loop lo hi none₀ s₀ none s = (s ≤ 6553) × (none ≡ true → (j : ℕ) → j < s → live (slotAt lo hi j) ≡ false)
 
 abbrev μ-loop : tie.MeasureT-loop
-μ-loop lo hi none₀ s₀ none s = 17203 - s
+μ-loop lo hi none₀ s₀ none s = 6553 - s
 
 loop-holds : tie.Need-loop-holds Inv-loop μ-loop
 loop-holds c = (omega arith, λ _ j h. absurd (omega arith))

@@ -8,7 +8,7 @@ use Rattle.bus_rounds.proofs.slot.waiting_for.Statement.{statement}
 use Rattle.bus_rounds.proofs.slot.waiting_for.Tie as tie
 
 abbrev Inv-loop : tie.InvT-loop
-Inv-loop ext lo hi span t low step s₀ tried₀ s tried = (s < 17203) × (step < 17203) × Tagged span low
+Inv-loop ext lo hi span t low step s₀ tried₀ s tried = (s < 6553) × (step < 6553) × Tagged span low
 
 abbrev μ-loop : tie.MeasureT-loop
 μ-loop ext lo hi span t low step s₀ tried₀ s tried = 2048 - tried

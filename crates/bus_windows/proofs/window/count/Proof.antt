@@ -11,19 +11,19 @@ use Rattle.bus_windows.proofs.window.count.Statement.{statement}
 use Rattle.bus_windows.proofs.window.count.Tie as tie
 
 abbrev Inv-loop : tie.InvT-loop
-Inv-loop program exec ext uppers lowers net₀ n j₀ net j =
-    (n ≡ length exec / 32 + length ext / 120) × (j ≤ n) × Counted (given program []) (tables exec ext) uppers lowers net j
+Inv-loop program exec ext uppers lowers marks net₀ n j₀ net j =
+    (n ≡ length exec / 32 + length ext / 120) × (j ≤ n) × Counted (given program []) (tables exec ext) uppers lowers marks net j
 
 abbrev μ-loop : tie.MeasureT-loop
-μ-loop program exec ext uppers lowers net₀ n j₀ net j = n - j
+μ-loop program exec ext uppers lowers marks net₀ n j₀ net j = n - j
 
 loop-holds : tie.Need-loop-holds Inv-loop μ-loop
-loop-holds c = (refl, omega arith, c .before .before .before .pre .1 .1 .1)
+loop-holds c = (refl, omega arith, c .before .before .before .pre .1)
 
 count-one-requires : tie.Need-count-one-requires Inv-loop μ-loop
 count-one-requires c κs =
     let start = c .before .before .before .before .before .before in
-    (start .pre .0, (start .pre .1 .0, (start .pre .1 .1 .0, (omega arith, c .before .before .loop .inv .2))))
+    (start .pre .0, (omega arith, c .before .before .loop .inv .2))
 
 loop-again : tie.Need-loop-again Inv-loop μ-loop
 loop-again c = (refl, omega arith, c .count-one .ensures)

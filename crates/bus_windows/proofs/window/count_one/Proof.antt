@@ -9,7 +9,6 @@ use Prim.Native.Nat.{ℕ, _≤_, _<_}
 use mathlib.Core.List.{List, []}
 use native.Mathlib.Omega.{arith}
 use Rattle.rules.specs.Sizes.{given, tables}
-use Rattle.bus_search.proofs.Slots.{sought-held, sought-none}
 use Rattle.bus_windows.proofs.Windows.{has-room, counts-nothing, counts-absent, counts-held}
 use Rattle.bus_windows.proofs.window.count_one.Statement.{statement}
 use Rattle.bus_windows.proofs.window.count_one.Tie as tie
@@ -27,7 +26,7 @@ returns c =
     let start = c .before .before .before .before .before .before in
     let sender = c .before .before .sender in
     counts-nothing (given (start .args .program .now) []) (tables (start .args .exec .now) (start .args .ext .now))
-    (start .args .uppers .now) (start .args .lowers .now) (start .args .net .now) (start .args .j) (sender .result) (sender .ensures) (start .pre .1 .1 .1 .1)
+    (start .args .uppers .now) (start .args .lowers .now) (start .args .marks .now) (start .args .net .now) (start .args .j) (sender .result) (sender .ensures) (start .pre .1 .1)
     (c .if1 .taken)
 
 add-net : tie.Need-add-net
@@ -35,7 +34,7 @@ add-net c =
     let start = c .before .before .before .before .before .before .before .before .before .before .before in
     let seek = c .before .before .before .seek in
     let if2 = c .before .before .if2 in
-    let room = has-room _ _ (start .pre .1 .1 .1 .1 (seek .result) (if2 .taken)) (omega arith) in
+    let room = has-room _ _ (start .pre .1 .1 (seek .result) (if2 .taken)) (omega arith) in
     record { fits = omega arith }
 
 sub-net : tie.Need-sub-net
@@ -43,7 +42,7 @@ sub-net c =
     let start = c .before .before .before .before .before .before .before .before .before .before .before .before in
     let seek = c .before .before .before .before .seek in
     let if2 = c .before .before .before .if2 in
-    let room = has-room _ _ (start .pre .1 .1 .1 .1 (seek .result) (if2 .taken)) (omega arith) in
+    let room = has-room _ _ (start .pre .1 .1 (seek .result) (if2 .taken)) (omega arith) in
     omega arith
 
 returns-2 : tie.Need-returns-2
@@ -53,11 +52,11 @@ returns-2 c =
     let if1 = c .before .before .before .before .before .before .if1 in
     let seek = c .before .before .before .before .seek in
     let if2 = c .before .before .before .if2 in
-    let room = has-room _ _ (start .pre .1 .1 .1 .1 (seek .result) (if2 .taken)) (omega arith) in
+    let room = has-room _ _ (start .pre .1 .1 (seek .result) (if2 .taken)) (omega arith) in
     counts-held (given (start .args .program .now) []) (tables (start .args .exec .now) (start .args .ext .now))
-    (start .args .uppers .now) (start .args .lowers .now) (start .args .net .now) (start .args .j) (sender .result) (sender .ensures) (start .pre .1 .1 .1 .1)
+    (start .args .uppers .now) (start .args .lowers .now) (start .args .marks .now) (start .args .net .now) (start .args .j) (sender .result) (sender .ensures) (start .pre .1 .1)
     (seek .result) _
-    (sought-held (start .args .uppers .now) (start .args .lowers .now) _ (seek .result) (rw (sender .ensures .tuple-is (if1 .left)) at (seek .ensures)) (if2 .taken))
+    (rw (sender .ensures .tuple-is (if1 .left)) at (seek .ensures))
     (within (start .args .net .now) (seek .result) (omega arith))
     (omega arith)
 
@@ -68,8 +67,8 @@ returns-3 c =
     let if1 = c .before .before .before .if1 in
     let seek = c .before .seek in
     counts-absent (given (start .args .program .now) []) (tables (start .args .exec .now) (start .args .ext .now))
-    (start .args .uppers .now) (start .args .lowers .now) (start .args .net .now) (start .args .j) (sender .result) (sender .ensures) (start .pre .1 .1 .1 .1)
-    (sought-none (start .args .uppers .now) (start .args .lowers .now) _ (seek .result) (rw (sender .ensures .tuple-is (if1 .left)) at (seek .ensures)) (c .if2 .left))
+    (start .args .uppers .now) (start .args .lowers .now) (start .args .marks .now) (start .args .net .now) (start .args .j) (sender .result) (sender .ensures) (start .pre .1 .1)
+    (omega (arith, rw (sender .ensures .tuple-is (if1 .left)) at (seek .ensures)))
 
 pub count-one-spec : {M : Type 1} → statement M
 count-one-spec =

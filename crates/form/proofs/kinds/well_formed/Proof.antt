@@ -1,6 +1,6 @@
 -- Each test is what its function promises, and together they are those by which an instruction is known to be well-formed.
 use borrow.Author.Needs.{needs}
-use Rattle.form.proofs.Forms.{tested}
+use Rattle.form.proofs.Forms.{form-tests}
 use Rattle.form.proofs.kinds.well_formed.Statement.{statement}
 use Rattle.form.proofs.kinds.well_formed.Tie as tie
 
@@ -15,7 +15,7 @@ returns c =
       c .before .before .is-jump .ensures,
       c .before .no-opcode .ensures,
       c .is-data .ensures,
-    ) (tested _)
+    ) (form-tests _)
 
 pub well-formed-spec : {M : Type 1} → statement M
 well-formed-spec =

@@ -8,7 +8,7 @@ returns : tie.Need-returns
 returns c =
     let second = c .before in
     let first = second .before in
-    rw (first .before .kind-of .ensures, first .operand-of .ensures, second .operand-of2 .ensures, c .operand-of3 .ensures) (known _ (first .before .before .pre))
+    rw (first .before .kind-by .ensures, first .operand-of .ensures, second .operand-of2 .ensures, c .operand-of3 .ensures) (known _ (first .before .before .pre))
 
 pub decode-known-spec : {M : Type 1} → statement M
 decode-known-spec =

@@ -6,14 +6,8 @@ use borrow.Author.Needs.{needs}
 use Rattle.label.proofs.digit.form.Statement.{statement}
 use Rattle.label.proofs.digit.form.Tie as tie
 
-array-read-result : tie.Need-array-read-result
-array-read-result c = search needs
-
-returns : tie.Need-returns
-returns c = search needs
-
 returns-2 : tie.Need-returns-2
 returns-2 c = sym (List·getD-eq-default form 0 (c .if1 .left))
 
 pub form-spec : {M : Type 1} → statement M
-form-spec = tie.close (tie.spec array-read-result returns returns-2)
+form-spec = tie.close (tie.spec (λ c. search needs) (λ c. search needs) returns-2)

@@ -9,9 +9,6 @@ returns : tie.Need-returns
 unfolding hexValue
 returns c = search tests
 
-cast-result : tie.Need-cast-result
-cast-result c = search needs
-
 returns-2 : tie.Need-returns-2
 unfolding hexValue
 returns-2 c = search tests
@@ -19,12 +16,6 @@ returns-2 c = search tests
 returns-3 : tie.Need-returns-3
 unfolding hexValue
 returns-3 c = search tests
-
-sub-result : tie.Need-sub-result
-sub-result c = search needs
-
-cast-result-2 : tie.Need-cast-result-2
-cast-result-2 c = search needs
 
 returns-4 : tie.Need-returns-4
 unfolding hexValue
@@ -37,4 +28,4 @@ returns-5 c = search tests
 pub hex-value-spec : {M : Type 1} → statement M
 hex-value-spec =
     tie.close
-    (tie.spec returns cast-result returns-2 returns-3 sub-result cast-result-2 returns-4 returns-5)
+    (tie.spec returns (λ c. search needs) returns-2 returns-3 (λ c. search needs) (λ c. search needs) returns-4 returns-5)

@@ -9,9 +9,6 @@ returns : tie.Need-returns
 unfolding decimalValue
 returns c = search tests
 
-cast-result : tie.Need-cast-result
-cast-result c = search needs
-
 returns-2 : tie.Need-returns-2
 unfolding decimalValue
 returns-2 c = search tests
@@ -21,4 +18,4 @@ unfolding decimalValue
 returns-3 c = search tests
 
 pub value-spec : {M : Type 1} → statement M
-value-spec = tie.close (tie.spec returns cast-result returns-2 returns-3)
+value-spec = tie.close (tie.spec returns (λ c. search needs) returns-2 returns-3)

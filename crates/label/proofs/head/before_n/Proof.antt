@@ -14,38 +14,11 @@ use Rattle.label.proofs.Runs.{to-n}
 use Rattle.label.proofs.head.before_n.Statement.{statement}
 use Rattle.label.proofs.head.before_n.Tie as tie
 
-returns : tie.Need-returns
-returns c = search needs
-
-formed-requires : tie.Need-formed-requires
-formed-requires c κs = search needs
-
-all-hex-requires : tie.Need-all-hex-requires
-all-hex-requires c κs = search needs
-
-shared-slice-read-value : tie.Need-shared-slice-read-value
-shared-slice-read-value c = search needs
-
-value-requires : tie.Need-value-requires
-value-requires c κs = search needs
-
-shared-slice-read-value-2 : tie.Need-shared-slice-read-value-2
-shared-slice-read-value-2 c = search needs
-
-value-requires-2 : tie.Need-value-requires-2
-value-requires-2 c κs = search needs
-
 seed-of-requires : tie.Need-seed-of-requires
 seed-of-requires c κs =
     let t = c .before .before .before .before .before in
     let h = t .before in
     (search needs, sym (h .all-hex .ensures) ∙ both (h .before .formed .result) (h .all-hex .result) (t .if2 .taken) .1)
-
-mul-t18 : tie.Need-mul-t18
-mul-t18 c = search needs
-
-add-t19 : tie.Need-add-t19
-add-t19 c = search needs
 
 returns-2 : tie.Need-returns-2
 returns-2 c =
@@ -64,26 +37,20 @@ returns-2 c =
     let last : decimalValue (getD text 29 0) < 10 = omega (arith, ltb-true (units .result) 10 (m .1), units .ensures .0) in
     rw (c .seed-of .ensures, tens .ensures .0, units .ensures .0) (to-n text (omega arith) formed hexes low high last)
 
-returns-3 : tie.Need-returns-3
-returns-3 c = search needs
-
-returns-4 : tie.Need-returns-4
-returns-4 c = search needs
-
 pub before-n-spec : {M : Type 1} → statement M
 before-n-spec =
     tie.close
     (tie.spec
-    returns
-    formed-requires
-    all-hex-requires
-    shared-slice-read-value
-    value-requires
-    shared-slice-read-value-2
-    value-requires-2
+    (λ c. search needs)
+    (λ c κs. search needs)
+    (λ c κs. search needs)
+    (λ c. search needs)
+    (λ c κs. search needs)
+    (λ c. search needs)
+    (λ c κs. search needs)
     seed-of-requires
-    mul-t18
-    add-t19
+    (λ c. search needs)
+    (λ c. search needs)
     returns-2
-    returns-3
-    returns-4)
+    (λ c. search needs)
+    (λ c. search needs))

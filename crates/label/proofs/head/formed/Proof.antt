@@ -20,21 +20,6 @@ loop-holds : tie.Need-loop-holds Inv-loop μ-loop
 unfolding every
 loop-holds c = search needs
 
-array-read-good : tie.Need-array-read-good Inv-loop μ-loop
-array-read-good c = search needs
-
-shared-slice-read-good : tie.Need-shared-slice-read-good Inv-loop μ-loop
-shared-slice-read-good c = search needs
-
-array-read-good-2 : tie.Need-array-read-good-2 Inv-loop μ-loop
-array-read-good-2 c = search needs
-
-add-at : tie.Need-add-at Inv-loop μ-loop
-add-at c = search needs
-
-loop-less : tie.Need-loop-less Inv-loop μ-loop
-loop-less c = search needs
-
 loop-again : tie.Need-loop-again Inv-loop μ-loop
 loop-again c =
     let text = c .before .before .before .args .text .now in
@@ -52,10 +37,10 @@ formed-spec =
     Inv-loop
     μ-loop
     loop-holds
-    array-read-good
-    shared-slice-read-good
-    array-read-good-2
-    add-at
-    loop-less
+    (λ c. search needs)
+    (λ c. search needs)
+    (λ c. search needs)
+    (λ c. search needs)
+    (λ c. search needs)
     loop-again
     returns)

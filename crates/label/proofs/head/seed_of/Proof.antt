@@ -24,12 +24,6 @@ mul-seed c =
     let text = c .before .before .before .args .text .now in
     omega (arith, seed-room text (hex-digits text (c .before .before .before .pre .1)) (c .before .loop .k) (c .loop-test .taken))
 
-add-known-hex : tie.Need-add-known-hex Inv-loop μ-loop
-add-known-hex c = search needs
-
-shared-slice-read-known-hex : tie.Need-shared-slice-read-known-hex Inv-loop μ-loop
-shared-slice-read-known-hex c = search needs
-
 known-hex-requires : tie.Need-known-hex-requires Inv-loop μ-loop
 known-hex-requires c κs =
     hex-digits (c .before .before .before .before .args .text .now) (c .before .before .before .before .pre .1) (c .before .before .loop .k)
@@ -42,12 +36,6 @@ add-seed c =
     let k = c .before .before .before .loop .k in
     let h = c .before .before .loop-test .taken in
     omega (arith, seed-room text hex k h, hex k h)
-
-add-k : tie.Need-add-k Inv-loop μ-loop
-add-k c = search needs
-
-loop-less : tie.Need-loop-less Inv-loop μ-loop
-loop-less c = search needs
 
 loop-again : tie.Need-loop-again Inv-loop μ-loop
 loop-again c =
@@ -67,11 +55,11 @@ seed-of-spec =
     μ-loop
     loop-holds
     mul-seed
-    add-known-hex
-    shared-slice-read-known-hex
+    (λ c. search needs)
+    (λ c. search needs)
     known-hex-requires
     add-seed
-    add-k
-    loop-less
+    (λ c. search needs)
+    (λ c. search needs)
     loop-again
     returns)

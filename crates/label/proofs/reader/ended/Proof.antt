@@ -4,9 +4,6 @@ use borrow.Author.Needs.{needs}
 use Rattle.label.proofs.reader.ended.Statement.{statement}
 use Rattle.label.proofs.reader.ended.Tie as tie
 
-refused-requires : tie.Need-refused-requires
-refused-requires c κs = search needs
-
 returns : tie.Need-returns
 returns c = search tests
 
@@ -14,4 +11,4 @@ returns-2 : tie.Need-returns-2
 returns-2 c = search tests
 
 pub ended-spec : {M : Type 1} → statement M
-ended-spec = tie.close (tie.spec refused-requires returns returns-2)
+ended-spec = tie.close (tie.spec (λ c κs. search needs) returns returns-2)

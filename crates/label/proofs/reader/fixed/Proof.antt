@@ -5,12 +5,6 @@ use borrow.Author.Needs.{needs}
 use Rattle.label.proofs.reader.fixed.Statement.{statement}
 use Rattle.label.proofs.reader.fixed.Tie as tie
 
-form-requires : tie.Need-form-requires
-form-requires c κs = search needs
-
-add-t5 : tie.Need-add-t5
-add-t5 c = search needs
-
 returns : tie.Need-returns
 unfolding nextFixed
 returns c = rw (← c .before .before .form .ensures) (search tests)
@@ -20,4 +14,4 @@ unfolding nextFixed
 returns-2 c = rw (← c .before .form .ensures) (search tests)
 
 pub fixed-spec : {M : Type 1} → statement M
-fixed-spec = tie.close (tie.spec form-requires add-t5 returns returns-2)
+fixed-spec = tie.close (tie.spec (λ c κs. search needs) (λ c. search needs) returns returns-2)

@@ -5,15 +5,9 @@ use borrow.Author.Needs.{needs}
 use Rattle.label.proofs.reader.m_first.Statement.{statement}
 use Rattle.label.proofs.reader.m_first.Tie as tie
 
-value-requires : tie.Need-value-requires
-value-requires c κs = search needs
-
 returns : tie.Need-returns
 unfolding nextTens
 returns c = rw (← c .before .value .ensures .0) (search tests)
-
-add-t5 : tie.Need-add-t5
-add-t5 c = search needs
 
 returns-2 : tie.Need-returns-2
 unfolding nextTens
@@ -24,4 +18,4 @@ unfolding nextTens
 returns-3 c = rw (← c .before .before .value .ensures .0) (search tests)
 
 pub m-first-spec : {M : Type 1} → statement M
-m-first-spec = tie.close (tie.spec value-requires returns add-t5 returns-2 returns-3)
+m-first-spec = tie.close (tie.spec (λ c κs. search needs) returns (λ c. search needs) returns-2 returns-3)

@@ -5,15 +5,6 @@ use borrow.Author.Needs.{needs}
 use Rattle.label.proofs.reader.n_digit.Statement.{statement}
 use Rattle.label.proofs.reader.n_digit.Tie as tie
 
-value-requires : tie.Need-value-requires
-value-requires c κs = search needs
-
-mul-n : tie.Need-mul-n
-mul-n c = search needs
-
-add-n : tie.Need-add-n
-add-n c = search needs
-
 returns : tie.Need-returns
 unfolding nextN
 returns c = rw (← c .before .before .before .value .ensures .0) (search tests)
@@ -30,9 +21,6 @@ returns-4 : tie.Need-returns-4
 unfolding nextN
 returns-4 c = rw (← c .before .before .before .value .ensures .0) (search tests)
 
-add-t9 : tie.Need-add-t9
-add-t9 c = search needs
-
 returns-5 : tie.Need-returns-5
 unfolding nextN
 returns-5 c = rw (← c .before .before .before .before .before .value .ensures .0) (search tests)
@@ -45,13 +33,13 @@ pub n-digit-spec : {M : Type 1} → statement M
 n-digit-spec =
     tie.close
     (tie.spec
-    value-requires
-    mul-n
-    add-n
+    (λ c κs. search needs)
+    (λ c. search needs)
+    (λ c. search needs)
     returns
     returns-2
     returns-3
     returns-4
-    add-t9
+    (λ c. search needs)
     returns-5
     returns-6)

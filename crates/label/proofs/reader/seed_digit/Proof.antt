@@ -5,18 +5,6 @@ use borrow.Author.Needs.{needs}
 use Rattle.label.proofs.reader.seed_digit.Statement.{statement}
 use Rattle.label.proofs.reader.seed_digit.Tie as tie
 
-hex-value-requires : tie.Need-hex-value-requires
-hex-value-requires c κs = search needs
-
-add-t5 : tie.Need-add-t5
-add-t5 c = search needs
-
-mul-t6 : tie.Need-mul-t6
-mul-t6 c = search needs
-
-add-t7 : tie.Need-add-t7
-add-t7 c = search needs
-
 returns : tie.Need-returns
 unfolding nextSeed
 returns c = rw (← c .before .before .before .hex-value .ensures .0) (search tests)
@@ -26,4 +14,4 @@ unfolding nextSeed
 returns-2 c = rw (← c .before .hex-value .ensures .0) (search tests)
 
 pub seed-digit-spec : {M : Type 1} → statement M
-seed-digit-spec = tie.close (tie.spec hex-value-requires add-t5 mul-t6 add-t7 returns returns-2)
+seed-digit-spec = tie.close (tie.spec (λ c κs. search needs) (λ c. search needs) (λ c. search needs) (λ c. search needs) returns returns-2)

@@ -10,27 +10,15 @@ use borrow.Author.Needs.{needs}
 use Rattle.label.proofs.writer.label_byte.Statement.{statement}
 use Rattle.label.proofs.writer.label_byte.Tie as tie
 
-form-requires : tie.Need-form-requires
-form-requires c κs = search needs
-
 returns : tie.Need-returns
 returns c =
     let s = c .before .before in
     c .form .ensures ∙ sym (at-head (s .args .recipe) (s .pre .0) (s .args .at) (search needs))
 
-sub-hex-digit : tie.Need-sub-hex-digit
-sub-hex-digit c = search needs
-
-hex-digit-requires : tie.Need-hex-digit-requires
-hex-digit-requires c κs = search needs
-
 returns-2 : tie.Need-returns-2
 returns-2 c =
     let s = c .before .before .before in
     c .hex-digit .ensures ∙ sym (at-seed (s .args .recipe) (s .pre .0) (s .args .at) (search needs) (search needs))
-
-form-requires-2 : tie.Need-form-requires-2
-form-requires-2 c κs = search needs
 
 returns-3 : tie.Need-returns-3
 returns-3 c =
@@ -52,19 +40,10 @@ returns-4 c =
     let s = c .before .before .before .before .before in
     sym (at-tens (s .args .recipe) (s .pre .0) (s .args .at) (search needs) (search needs))
 
-cast-result-2 : tie.Need-cast-result-2
-cast-result-2 c = search needs
-
-add-result-2 : tie.Need-add-result-2
-add-result-2 c = search needs
-
 returns-5 : tie.Need-returns-5
 returns-5 c =
     let s = c .before .before .before .before .before .before in
     sym (at-units (s .args .recipe) (s .pre .0) (s .args .at) (search needs) (search needs))
-
-form-requires-3 : tie.Need-form-requires-3
-form-requires-3 c κs = search needs
 
 returns-6 : tie.Need-returns-6
 returns-6 c =
@@ -76,12 +55,6 @@ tail-requires c κs =
     let s = c .before .before .before .before .before .before in
     n-high (s .args .recipe) (s .pre .0)
 
-cast-result-3 : tie.Need-cast-result-3
-cast-result-3 c = search needs
-
-array-read-result : tie.Need-array-read-result
-array-read-result c = search needs
-
 returns-7 : tie.Need-returns-7
 returns-7 c =
     let s = c .before .before .before .before .before .before .before in
@@ -92,22 +65,22 @@ pub label-byte-spec : {M : Type 1} → statement M
 label-byte-spec =
     tie.close
     (tie.spec
-    form-requires
+    (λ c κs. search needs)
     returns
-    sub-hex-digit
-    hex-digit-requires
+    (λ c. search needs)
+    (λ c κs. search needs)
     returns-2
-    form-requires-2
+    (λ c κs. search needs)
     returns-3
     cast-result
     add-result
     returns-4
-    cast-result-2
-    add-result-2
+    (λ c. search needs)
+    (λ c. search needs)
     returns-5
-    form-requires-3
+    (λ c κs. search needs)
     returns-6
     tail-requires
-    cast-result-3
-    array-read-result
+    (λ c. search needs)
+    (λ c. search needs)
     returns-7)

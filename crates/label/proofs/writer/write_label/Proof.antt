@@ -5,14 +5,8 @@ use borrow.Author.Needs.{needs}
 use Rattle.label.proofs.writer.write_label.Statement.{statement}
 use Rattle.label.proofs.writer.write_label.Tie as tie
 
-in-range-requires : tie.Need-in-range-requires
-in-range-requires c κs = search needs
-
 label-length-requires : tie.Need-label-length-requires
 label-length-requires c κs = sym (c .before .in-range .ensures) ∙ c .if1 .taken
-
-cast-if2 : tie.Need-cast-if2
-cast-if2 c = search needs
 
 returns : tie.Need-returns
 returns c =
@@ -25,9 +19,6 @@ fill-requires : tie.Need-fill-requires
 fill-requires c κs =
     let s = c .before .before .before .before in
     (sym (s .in-range .ensures) ∙ c .before .before .before .if1 .taken, search needs, search needs, search needs)
-
-same-length : tie.Need-same-length
-same-length c = search needs
 
 returns-2 : tie.Need-returns-2
 returns-2 c =
@@ -46,11 +37,11 @@ pub write-label-spec : {M : Type 1} → statement M
 write-label-spec =
     tie.close
     (tie.spec
-    in-range-requires
+    (λ c κs. search needs)
     label-length-requires
-    cast-if2
+    (λ c. search needs)
     returns
     fill-requires
-    same-length
+    (λ c. search needs)
     returns-2
     returns-3)

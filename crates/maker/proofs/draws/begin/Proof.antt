@@ -6,13 +6,13 @@ use borrow.Author.Needs.{needs}
 use lib.ListN.{length-set, length, getD}
 use Rattle.maker.proofs.Drawing.{one-draw, state-next, stored}
 use Rattle.word.specs.Word.{p}
-use Rattle.maker.specs.Drawn.{stateAfter, cellDrawn}
+use Rattle.maker.specs.Drawn.{stateAfter, drawsOf}
 use Rattle.maker.proofs.draws.begin.Statement.{statement}
 use Rattle.maker.proofs.draws.begin.Tie as tie
 
 abbrev Inv-loop : tie.InvT-loop
 Inv-loop seed cells₀ generator₀ k₀ cells generator k =
-    (k ≤ 32) × (length cells ≡ 32) × (generator .state ≡ stateAfter seed k) × ((j : ℕ) → j < k → getD cells j 0 ≡ cellDrawn seed j)
+    (k ≤ 32) × (length cells ≡ 32) × (generator .state ≡ stateAfter seed k) × ((j : ℕ) → j < k → getD cells j 0 ≡ drawsOf seed .cell j)
 
 abbrev μ-loop : tie.MeasureT-loop
 μ-loop seed cells₀ generator₀ k₀ cells generator k = 32 - k
@@ -26,7 +26,7 @@ loop-again c =
     let l = c .before .before .before .before .loop in
     let seed = c .before .before .before .before .before .before .args .seed in
     let d = c .before .before .draw .ensures in
-    let e : c .before .before .draw .result .number % p ≡ cellDrawn seed (l .k) = rw (d, l .inv .2, one-draw seed (l .k)) in (
+    let e : c .before .before .draw .result .number % p ≡ drawsOf seed .cell (l .k) = rw (d, l .inv .2, one-draw seed (l .k)) in (
       omega arith,
       simp length-set (l .inv .1),
       rw (d, l .inv .2) (sym (state-next seed (l .k))),

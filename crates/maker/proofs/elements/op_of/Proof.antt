@@ -1,4 +1,4 @@
--- In each arm the remainder is known, and `opOf` computes.
+-- In each arm the remainder is known, and `opPicked` computes.
 use mathlib.Core.Path.{_≡_}
 use Prim.Native.Nat.{_/_, _%_}
 use native.Mathlib.Omega.{arith}

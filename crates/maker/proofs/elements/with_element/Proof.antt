@@ -3,9 +3,6 @@ use borrow.Author.Needs.{needs}
 use Rattle.maker.proofs.elements.with_element.Statement.{statement}
 use Rattle.maker.proofs.elements.with_element.Tie as tie
 
-returns : tie.Need-returns
-returns c = cc
-
 pub with-element-spec : {M : Type 1} → statement M
 with-element-spec =
     tie.close
@@ -15,4 +12,4 @@ with-element-spec =
     (λ c. search needs)
     (λ c κs. search needs)
     (λ c κs. search needs)
-    returns)
+    (λ c. cc))

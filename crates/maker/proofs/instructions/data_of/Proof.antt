@@ -2,7 +2,7 @@
 use Prim.Native.Nat.{_+_, _%_}
 use native.Mathlib.Omega.{arith}
 use borrow.Author.Needs.{needs}
-use Rattle.maker.specs.Made.{beOf}
+use Rattle.maker.specs.Made.{bePicked}
 use Rattle.maker.proofs.Making.{data-small}
 use Rattle.maker.proofs.instructions.data_of.Statement.{statement}
 use Rattle.maker.proofs.instructions.data_of.Tie as tie
@@ -10,11 +10,8 @@ use Rattle.maker.proofs.instructions.data_of.Tie as tie
 cast-result : tie.Need-cast-result
 cast-result c =
     let d = c .data-word .ensures in
-    record { fits = omega (arith, d, data-small (c .before .op-of .result) (beOf (c .before .before .args .c)) (1 + c .before .before .args .c % 2) (omega arith)) }
-
-returns : tie.Need-returns
-returns c = cc
+    record { fits = omega (arith, d, data-small (c .before .op-of .result) (bePicked (c .before .before .args .c)) (1 + c .before .before .args .c % 2) (omega arith)) }
 
 pub data-of-spec : {M : Type 1} → statement M
 data-of-spec =
-    tie.close (tie.spec (λ c κs. search needs) (λ c. search needs) (λ c κs. search needs) cast-result returns)
+    tie.close (tie.spec (λ c κs. search needs) (λ c. search needs) (λ c κs. search needs) cast-result (λ c. cc))

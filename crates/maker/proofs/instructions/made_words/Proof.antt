@@ -1,7 +1,7 @@
 -- In each arm the kind is known; from 4 on it is an extension.
 use native.Mathlib.Omega.{arith}
 use borrow.Author.Needs.{needs}
-use Rattle.maker.proofs.Making.{made-extension}
+use Rattle.maker.proofs.Making.{picked-extension}
 use Rattle.maker.proofs.instructions.made_words.Statement.{statement}
 use Rattle.maker.proofs.instructions.made_words.Tie as tie
 
@@ -18,7 +18,7 @@ returns-4 : tie.Need-returns-4
 returns-4 c = rw (c .match .keys4)
 
 returns-5 : tie.Need-returns-5
-returns-5 c = rw (made-extension (c .before .before .args .i) (c .before .before .args .kind) (c .before .before .args .a) (c .before .before .args .c) (omega arith), ← c .data-of .ensures)
+returns-5 c = rw (picked-extension (c .before .before .args .kind) (c .before .before .args .c) (omega arith), ← c .data-of .ensures)
 
 pub made-words-spec : {M : Type 1} → statement M
 made-words-spec =

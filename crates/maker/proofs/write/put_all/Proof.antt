@@ -12,7 +12,7 @@ use Rattle.maker.proofs.Filling.{program-kept, cells-kept, instruction-
 use Rattle.maker.specs.Bytes.{instructionsOf, cellsOf}
 use Rattle.maker.proofs.Drawing.{kind-drawn, a-drawn, c-drawn, after-three}
 use Rattle.maker.proofs.Parts.{part-length, front-length, behind}
-use Rattle.maker.specs.Drawn.{stateAfter, kindOf, aOf, cOf}
+use Rattle.maker.specs.Drawn.{stateAfter, drawsOf}
 use Rattle.maker.proofs.write.put_all.Statement.{statement}
 use Rattle.maker.proofs.write.put_all.Tie as tie
 
@@ -22,8 +22,8 @@ Inv-loop seed n program₀ memory₀ drawn generator₀ first end i₀ program m
     × (length program ≡ length program₀)
     × (length memory ≡ length memory₀)
     × (generator .state ≡ stateAfter seed (32 + 3 * i))
-    × (program ≡ instructionsOf seed n i ++ drop (48 * i) program₀)
-    × (memory ≡ cellsOf seed n (32 + 8 * i) ++ drop (128 + 32 * i) memory₀)
+    × (program ≡ instructionsOf (drawsOf seed) n i ++ drop (48 * i) program₀)
+    × (memory ≡ cellsOf (drawsOf seed) n (32 + 8 * i) ++ drop (128 + 32 * i) memory₀)
 
 abbrev μ-loop : tie.MeasureT-loop
 μ-loop seed n program₀ memory₀ drawn generator₀ first end i₀ program memory generator i = n - i
@@ -45,7 +45,7 @@ loop-holds c =
       refl,
       begun .ensures .1,
       refl,
-      cells-begun (s .seed) (s .n) (s .memory .now) (begun .result .cells) (c .before .before .put-words .last .1 .0) long (begun .ensures .0) (c .before .before .put-words .ensures),
+      cells-begun (drawsOf (s .seed)) (s .n) (s .memory .now) (begun .result .cells) (c .before .before .put-words .last .1 .0) long (begun .ensures .0) (c .before .before .put-words .ensures),
     )
 
 put-one-requires : tie.Need-put-one-requires Inv-loop μ-loop
@@ -65,19 +65,19 @@ loop-again c =
     let d = c .before .before .before .before .before .before .before .before .before .draw-three .result in
     let put = c .before .before .before .before .before .put-one in
     let long : length (begun .result .cells) ≡ 32 = search needs in
-    let kind : d .kind ≡ kindOf (s .seed) (l .i) = (rw (l .inv .3) at (e .0)) ∙ sym (kind-drawn (s .seed) (l .i)) in
-    let a : d .a ≡ aOf (s .seed) (l .i) = (rw (l .inv .3) at (e .1)) ∙ sym (a-drawn (s .seed) (l .i)) in
-    let c' : d .c ≡ cOf (s .seed) (l .i) = (rw (l .inv .3) at (e .2)) ∙ sym (c-drawn (s .seed) (l .i)) in
-    let made = made-row (s .seed) (s .n) (l .i) (d .kind) (d .a) (d .c) (omega arith) kind a c' (put .ensures .0) in
-    let slot = slot-row (s .seed) (s .n) (begun .result .cells) (begun .ensures .0) (l .i) (d .kind) (d .a) (d .c) (omega arith) kind a c' (omega (arith, e .1)) (omega (arith, e .2)) (put .ensures .1) in
+    let kind : d .kind ≡ drawsOf (s .seed) .kind (l .i) = (rw (l .inv .3) at (e .0)) ∙ sym (kind-drawn (s .seed) (l .i)) in
+    let a : d .a ≡ drawsOf (s .seed) .a (l .i) = (rw (l .inv .3) at (e .1)) ∙ sym (a-drawn (s .seed) (l .i)) in
+    let c' : d .c ≡ drawsOf (s .seed) .c (l .i) = (rw (l .inv .3) at (e .2)) ∙ sym (c-drawn (s .seed) (l .i)) in
+    let made = made-row (drawsOf (s .seed)) (s .n) (l .i) (d .kind) (d .a) (d .c) (omega arith) kind a c' (put .ensures .0) in
+    let slot = slot-row (drawsOf (s .seed)) (s .n) (begun .result .cells) (begun .ensures .0) (l .i) (d .kind) (d .a) (d .c) (omega arith) kind a c' (omega (arith, e .1)) (omega (arith, e .2)) (put .ensures .1) in
     let base : List ℕ = first .last .1 .0 ++ drop 128 (s .memory .now) in
     let kept : length base ≡ length (s .memory .now) =
-    front-length (s .memory .now) (first .last .1 .0) 128 (first-length (s .seed) (s .n) (begun .result .cells) long (first .ensures)) (omega (arith, pre)) in
-    let program = instruction-next (s .seed) (s .n) (s .program .now) (l .program) (put .last .1 .1 .1 .0) (l .i) (48 * l .i + 48) (l .inv .4) (omega arith) made in
-    let memory = slot-next (s .seed) (s .n) base (l .memory) (put .last .1 .1 .1 .1 .0) (l .i) (128 + 32 * l .i + 32) (l .inv .5) (omega arith) slot in (
+    front-length (s .memory .now) (first .last .1 .0) 128 (first-length (drawsOf (s .seed)) (s .n) (begun .result .cells) long (first .ensures)) (omega (arith, pre)) in
+    let program = instruction-next (drawsOf (s .seed)) (s .n) (s .program .now) (l .program) (put .last .1 .1 .1 .0) (l .i) (48 * l .i + 48) (l .inv .4) (omega arith) made in
+    let memory = slot-next (drawsOf (s .seed)) (s .n) base (l .memory) (put .last .1 .1 .1 .1 .0) (l .i) (128 + 32 * l .i + 32) (l .inv .5) (omega arith) slot in (
       omega arith,
-      program-kept (s .seed) (s .n) (s .program .now) (l .i + 1) program (omega (arith, pre)),
-      cells-kept (s .seed) (s .n) base (l .i + 1) memory (omega (arith, pre, kept)),
+      program-kept (drawsOf (s .seed)) (s .n) (s .program .now) (l .i + 1) program (omega (arith, pre)),
+      cells-kept (drawsOf (s .seed)) (s .n) base (l .i + 1) memory (omega (arith, pre, kept)),
       (rw (l .inv .3) at (e .3)) ∙ sym (after-three (s .seed) (l .i)),
       program,
       memory,
@@ -91,7 +91,7 @@ returns c =
     let first = c .before .before .before .before .put-words in
     let long : length (begun .result .cells) ≡ 32 = search needs in
     let e : s .n ≡ l .i = omega arith in
-    let front = first-length (s .seed) (s .n) (begun .result .cells) long (first .ensures) in (
+    let front = first-length (drawsOf (s .seed)) (s .n) (begun .result .cells) long (first .ensures) in (
       rw e (l .inv .4),
       l .inv .5 ∙ rw (e, behind (s .memory .now) (first .last .1 .0) 128 (128 + 32 * l .i) front (omega arith)),
     )

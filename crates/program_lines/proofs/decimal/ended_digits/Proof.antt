@@ -6,14 +6,14 @@ use mathlib.Core.Path.{_≡_, refl, sym, _∙_}
 use native.Mathlib.Omega.{arith}
 use borrow.Author.Needs.{needs}
 use lib.ListN.{length, drop, length-set}
-use Rattle.program_lines.specs.Line.{decimal, decimalIn, ended}
+use Rattle.label.specs.Label.{decimal, decimalIn, line}
 use Rattle.program_lines.proofs.Numbers.{digit-more, digit-last, power-left}
 use Rattle.program_lines.proofs.decimal.ended_digits.Statement.{statement}
 use Rattle.program_lines.proofs.decimal.ended_digits.Tie as tie
 
 abbrev Inv-loop : tie.InvT-loop
 Inv-loop number bytes₀ i₀ rest₀ bytes i rest =
-    (i ≤ 20) × (0 < i) × (rest < 10 ^ i) × (length bytes ≡ 21) × (ended (decimal number) ≡ decimalIn i rest ++ drop i bytes)
+    (i ≤ 20) × (0 < i) × (rest < 10 ^ i) × (length bytes ≡ 21) × (line (decimal number) ≡ decimalIn i rest ++ drop i bytes)
 
 abbrev μ-loop : tie.MeasureT-loop
 μ-loop number bytes₀ i₀ rest₀ bytes i rest = rest

@@ -8,26 +8,23 @@ use Rattle.replay.proofs.own.own.Tie as tie
 
 returns : tie.Need-returns
 returns c =
-    let s = c .before .before .before .before .before .before .before .before .before .before .before .before .before .before .before .before .before .before .before in
-    let a = s .args in
-    not-tabled (a .recipe) (a .program .now) (a .memory .now) (a .exec .now) (a .ext .now) (s .pre) (c .before .before .before .before .before .before .before .before .before .before .build .ensures .0) (sym (c .before .accepted .ensures) ∙ not-true _ (c .if1 .taken))
+    let a = c .before .before .before .before .before .before .before .before .before .before .before .before .before .before .before .before .before .before .before .args in
+    not-tabled (a .recipe) (a .exec .now) (a .ext .now) (c .before .before .before .before .before .before .before .before .before .before .build .ensures .0) (sym (c .before .accepted .ensures) ∙ not-true _ (c .if1 .taken))
 
 returns-2 : tie.Need-returns-2
 returns-2 c =
-    let s = c .before .before .before .before .before .before .before .before .before .before .before .before .before .before .before .before .before .before .before .before .before .before .before .before .before .before in
-    let a = s .args in
+    let a = c .before .before .before .before .before .before .before .before .before .before .before .before .before .before .before .before .before .before .before .before .before .before .before .before .before .before .args in
     let built = c .before .before .before .before .before .before .before .before .before .before .before .before .before .before .before .before .before .build .ensures in
     let yes = sym (c .before .before .before .before .before .before .before .before .accepted .ensures) ∙ not-false _ (c .before .before .before .before .before .before .before .if1 .left) in
-    both-passed (a .recipe) (a .program .now) (a .memory .now) (a .exec .now) (a .ext .now) (s .pre) (built .0) yes (built .1) (built .2) (built .3) (built .4) (c .before .before .judge .ensures)
+    both-passed (a .recipe) (a .exec .now) (a .ext .now) (built .0) yes (built .1) (built .2) (built .3) (built .4) (c .before .before .judge .ensures)
     (sym (c .before .accepted2 .ensures) ∙ c .if2 .taken)
 
 returns-3 : tie.Need-returns-3
 returns-3 c =
-    let s = c .before .before .before .before .before .before .before .before .before .before .before .before .before .before .before .before .before .before .before .before .before .before .before .before .before .before in
-    let a = s .args in
+    let a = c .before .before .before .before .before .before .before .before .before .before .before .before .before .before .before .before .before .before .before .before .before .before .before .before .before .before .args in
     let built = c .before .before .before .before .before .before .before .before .before .before .before .before .before .before .before .before .before .build .ensures in
     let yes = sym (c .before .before .before .before .before .before .before .before .accepted .ensures) ∙ not-false _ (c .before .before .before .before .before .before .before .if1 .left) in
-    not-judged (a .recipe) (a .program .now) (a .memory .now) (a .exec .now) (a .ext .now) (s .pre) (built .0) yes (built .1) (built .2) (built .3) (built .4) (c .before .before .judge .ensures)
+    not-judged (a .recipe) (a .exec .now) (a .ext .now) (built .0) yes (built .1) (built .2) (built .3) (built .4) (c .before .before .judge .ensures)
     (sym (c .before .accepted2 .ensures) ∙ c .if2 .left)
 
 pub own-spec : {M : Type 1} → statement M

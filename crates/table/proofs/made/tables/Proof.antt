@@ -12,7 +12,7 @@ returns : tie.Need-returns
 returns c =
     let s = c .before .before .before .before .before .before .before .before .before .before .before .before .before .before .before .before .before .before .before .before in
     let a = s .args in
-    not-tabled (a .recipe) (a .program .now) (a .memory .now) (a .exec .now) (a .ext .now) (a .out .now) (s .pre .0) (c .before .before .before .before .before .before .before .before .before .before .build .ensures .0) (sym (c .before .accepted .ensures) ∙ not-true _ (c .if1 .taken))
+    not-tabled (a .recipe) (a .exec .now) (a .ext .now) (a .out .now) (c .before .before .before .before .before .before .before .before .before .before .build .ensures .0) (sym (c .before .accepted .ensures) ∙ not-true _ (c .if1 .taken))
 
 put-parts-requires : tie.Need-put-parts-requires
 put-parts-requires c κs =
@@ -25,7 +25,7 @@ returns-2 c =
     let s = c .before .before .before .before .before .before .before .before .before .before .before .before .before .before .before .before .before .before .before .before .before .before .before .before .before .before .before .before in
     let a = s .args in
     let built = c .before .before .before .before .before .before .before .before .before .before .before .before .before .before .before .before .before .before .build .ensures in
-    tabled (a .recipe) (a .program .now) (a .memory .now) (a .exec .now) (a .ext .now) (a .out .now) (s .pre .0) (built .0) (sym (c .before .before .before .before .before .before .before .before .before .accepted .ensures) ∙ not-false _ (c .before .before .before .before .before .before .before .before .if1 .left))
+    tabled (a .recipe) (a .exec .now) (a .ext .now) (a .out .now) (built .0) (sym (c .before .before .before .before .before .before .before .before .before .accepted .ensures) ∙ not-false _ (c .before .before .before .before .before .before .before .before .if1 .left))
     (built .1) (built .2) (built .3) (built .4) (c .before .before .put-parts .ensures)
 
 pub tables-spec : {M : Type 1} → statement M
