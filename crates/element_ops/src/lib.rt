@@ -1,4 +1,5 @@
-// What an extension instruction does with elements: the term of two, how it is joined to what comes after it, and what stands after the last.
+// What an extension instruction does with elements: the term of two, how it is joined to what comes after it, and what
+// stands after the last.
 use element::peq;
 use element::product;
 use element::sum;

@@ -1,4 +1,4 @@
--- Document 01, "Verdicts" 9 to 11, and the mission's third demand: a run of H legal steps that stays where it is at its end.
+-- Document 01, "Verdicts" 9 to 11, and the mission's third demand: a run of H legal steps that stays at its end.
 use mathlib.Core.Path.{_≡_}
 use Prim.Native.Nat.{ℕ, zero, suc, _<_}
 use Rattle.machine.specs.Machine.{Machine, State}

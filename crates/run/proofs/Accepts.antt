@@ -1,35 +1,48 @@
--- The run of the tabler's definition: it is accepted where the machine's run stays and leaves a spare row.
+-- How the tabler's run ends: it is accepted where the machine's run stays and leaves a spare row.
 -- Assumes nothing.
-use mathlib.Core.Path.{_≡_, refl}
-use mathlib.Core.Bool.{true}
-use Prim.Native.Nat.{ℕ, zero, suc, _+_, _≤_}
-use native.Mathlib.Nat.{add-zero}
+use mathlib.Core.Path.{_≡_, refl, ap, _∙_}
+use mathlib.Core.Bool.{Bool, true, false}
+use Prim.Native.Nat.{ℕ, suc, _+_, _-_, _≤_, _<_}
 use native.Mathlib.Omega.{arith}
-use borrow.Author.Tests.{le-leb, eq-eqb}
+use lib.Dec.{ltb}
+use borrow.Author.Tests.{le-leb, eq-eqb, le-ltb, ltb-true, ltb-false}
 use Rattle.answer.specs.declared.Answer.the-variants.{Accepted}
 use Rattle.machine.specs.Machine.{Machine, State}
-use Rattle.machine.specs.Run.{StayingRun}
-use Rattle.tables.specs.Groups.{filled, lengthAt}
+use Rattle.machine.specs.Run.{StayingRun, after}
+use Rattle.machine.specs.Step.{step}
+use Rattle.judge_spec.proofs.FirstLaws.{first-none}
+use Rattle.tables.specs.Rows.{stateAt}
+use Rattle.tables.specs.Groups.{filled}
 use Rattle.run_tables.proofs.Places.{filled-grows}
-use Rattle.tabler_spec.specs.Tabled.{sameState, running}
+use Rattle.run_tables.proofs.Runs.{after-is, own-run, filled-same}
+use Rattle.tabler_spec.specs.Tabled.{sameState, isLegal, rowPasses, ending}
 
 same-itself : (s : State) → sameState s s ≡ true
 same-itself s = rw (eq-eqb (s .pc) (s .pc) refl, eq-eqb (s .fp) (s .fp) refl)
 
-module _ {m : Machine} {start : State} {last : ℕ} {state : ℕ → State} (run : StayingRun m start last state) (room : ℕ) where
-  -- from row r on, with n rows after it
-  from : (n r : ℕ) → r + n ≡ last → filled m state (suc last) + 1 ≤ room → running m room n (state r) r (filled m state r) ≡ Accepted
-  unfolding running filled
-  from zero r e spare =
-      let here : r ≡ last = rw (add-zero r) at e in
-      rw (here, run .stays, le-leb (filled m state last + lengthAt m (state last) + 1) room spare, same-itself (state last))
-  from (suc n) r e spare =
-      let later : suc r + n ≡ last = omega arith in
-      let next = run .steps r (omega arith) in
-      let more = filled-grows m state (suc r) (suc last) (omega arith) in
-      let below : filled m state r + lengthAt m (state r) + 1 ≤ room = omega (arith, more) in
-      rw (next, le-leb (filled m state r + lengthAt m (state r) + 1) room below) (from n (suc r) later spare)
+module _ {m : Machine} {start : State} {height : ℕ} {state : ℕ → State} (some : 0 < height) (run : StayingRun m start (height - 1) state) (room : ℕ)
+    (spare : filled m state height + 1 ≤ room) where
+  abbrev own : ℕ → State
+  own = stateAt m start
 
-  pub running-accepts : filled m state (suc last) + 1 ≤ room → running m room last start 0 0 ≡ Accepted
-  unfolding filled
-  running-accepts spare = rw (← run .begins) (from last 0 (omega arith) spare)
+  legal : (r : ℕ) → r < height → isLegal (step m (own r)) ≡ true
+  legal r h = by (ltb r (height - 1)) refl
+    where
+      by : (b : Bool) → ltb r (height - 1) ≡ b → isLegal (step m (own r)) ≡ true
+      by true t = rw (own-run run .steps r (ltb-true r (height - 1) t))
+      by false t = let last : r ≡ height - 1 = omega (arith, ltb-false r (height - 1) t) in rw (last, own-run run .stays)
+
+  passes : (r : ℕ) → r < height → rowPasses m own room r ≡ true
+  passes r h =
+      rw (legal r h, le-leb (filled m own (suc r) + 1) room (omega (arith, filled-same run height (omega arith), filled-grows m own (suc r) height h)))
+
+  last-stays : own height ≡ own (height - 1)
+  unfolding stateAt after
+  last-stays =
+      let next : height ≡ suc (height - 1) = omega arith in
+      ap own next ∙ rw (after-is run (height - 1) (omega arith), run .stays)
+
+  pub ending-accepts : ending m start height room ≡ Accepted
+  unfolding ending
+  ending-accepts =
+      rw (first-none (rowPasses m own room) height .1 passes, le-ltb height height (omega arith), last-stays, same-itself (own (height - 1)))

@@ -1,5 +1,5 @@
--- Demand 3's words: a program, a memory and a start that are permitted, the machine they make, a run of H steps that stays and leaves a spare
--- extension row, and the tables of that run. Document 01, "Layouts", "The tabler", "Verdicts".
+-- Demand 3's words: a program, a memory and a start that are permitted, the machine they make, a run of H steps that
+-- stays and leaves a spare extension row, and the tables of that run. Document 01, "Layouts", "The tabler", "Verdicts".
 use Prim.Native.Nat.{ℕ, _+_, _-_, _*_, _<_, _≤_}
 use mathlib.Core.List.{List}
 use lib.Dec.{T}

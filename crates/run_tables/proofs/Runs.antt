@@ -13,7 +13,7 @@ use Rattle.run_steps.specs.Setting.{machineIn}
 use Rattle.run_tables.specs.Setting.{Writable}
 
 module _ {m : Machine} {start : State} {last : ℕ} {state : ℕ → State} (run : StayingRun m start last state) where
-  after-is : (r : ℕ) → r ≤ last → after m start r ≡ goes (state r)
+  pub after-is : (r : ℕ) → r ≤ last → after m start r ≡ goes (state r)
   unfolding after
   after-is zero h = ap goes (sym (run .begins))
   after-is (suc r) h = rw (after-is r (omega arith)) (run .steps r h)
@@ -31,7 +31,7 @@ module _ {m : Machine} {start : State} {last : ℕ} {state : ℕ → State} (run
         stays = rw (state-is last (omega arith)) (run .stays);
       }
 
-  filled-same : (n : ℕ) → n ≤ suc last → filled m (stateAt m start) n ≡ filled m state n
+  pub filled-same : (n : ℕ) → n ≤ suc last → filled m (stateAt m start) n ≡ filled m state n
   unfolding filled
   filled-same zero h = refl
   filled-same (suc n) h = ap₂ _+_ (filled-same n (omega arith)) (ap (lengthAt m) (state-is n (omega arith)))

@@ -1,11 +1,11 @@
--- The run ends with ACCEPTED, STUCK, ROOM or OPEN: the first leaves the tables filled, and on the others they are zeroed.
+-- The run ends with ACCEPTED, STUCK, ROOM or OPEN: the first leaves the tables filled, the others are zeroed.
 -- Assumes nothing.
 use mathlib.Core.Bool.{Bool, true, false, cond}
 use mathlib.Core.List.{List}
 use mathlib.Core.Path.{_≡_, refl, sym, ap, _∙_}
-use Prim.Native.Nat.{ℕ, zero, suc, _+_, _-_, _/_}
+use Prim.Native.Nat.{ℕ, _-_, _/_, _≤_}
 use native.Mathlib.Omega.{arith}
-use lib.Dec.{leb}
+use lib.Dec.{ltb}
 use lib.ListN.{length, replicate}
 use Rattle.answer.specs.Verdicts.{numbersOf}
 use Rattle.answer.specs.declared.Answer.the-variants.{Accepted, Stuck, Room, Open}
@@ -13,8 +13,9 @@ use Rattle.answer.specs.declared.Answer.{Answer}
 use Rattle.machine.specs.Machine.{Machine, State}
 use Rattle.machine.specs.Step.{Outcome, goes, stuck, step}
 use Rattle.tables.specs.Machine.{machineOf}
-use Rattle.tables.specs.Groups.{lengthAt}
-use Rattle.tabler_spec.specs.Tabled.{sameState, onStep, running, heldAfter, tableOf, execAfter, extAfter}
+use Rattle.tables.specs.Rows.{stateAt}
+use Rattle.judge_spec.specs.First.{first}
+use Rattle.tabler_spec.specs.Tabled.{sameState, rowPasses, refusedAt, ending, heldAfter, tableOf, execAfter, extAfter}
 use Rattle.tabler.specs.Ends.{runOf, Ended, Tabling}
 use Rattle.tabler_operands.specs.Looked.{at}
 
@@ -28,24 +29,30 @@ chosen : (b : Bool) {x y : Answer} → Final x → Final y → Final (cond b x y
 chosen true f g = f
 chosen false f g = g
 
-stepped : (o : Outcome) (r : ℕ) (onward : State → Answer) → ((t : State) → Final (onward t)) → Final (onStep o r onward)
-stepped (goes t) r onward f = f t
-stepped (stuck rule) r onward f = is-stuck r rule
+refusal : (r : ℕ) (o : Outcome) → Final (refusedAt r o)
+refusal r (goes t) = no-room r
+refusal r (stuck rule) = is-stuck r rule
 
-final : (m : Machine) (room n : ℕ) (s : State) (r k : ℕ) → Final (running m room n s r k)
-unfolding running
-final m room zero s r k =
-    stepped (step m s) r _
-    (λ t. chosen (leb (k + lengthAt m s + 1) room) (chosen (sameState t s) is-accepted (is-open r)) (no-room r))
-final m room (suc n) s r k =
-    stepped (step m s) r _
-    (λ t. chosen (leb (k + lengthAt m s + 1) room) (final m room n t (suc r) (k + lengthAt m s)) (no-room r))
+final : (m : Machine) (start : State) (height room : ℕ) → Final (ending m start height room)
+unfolding ending
+final m start height room =
+    let state = stateAt m start in
+    let r = first (rowPasses m state room) 0 height in
+    chosen (ltb r height) (refusal r (step m (state r))) (chosen (sameState (state height) (state (height - 1))) is-accepted (is-open (height - 1)))
 
 accepted : {a : Answer} → Final a → numbersOf a .verdict ≡ 0 → a ≡ Accepted
 accepted is-accepted e = refl
 accepted (is-stuck row rule) e = absurd (omega arith)
 accepted (no-room row) e = absurd (omega arith)
 accepted (is-open row) e = absurd (omega arith)
+
+-- a verdict other than 0 is no acceptance, and a refusal says nothing of the tables
+pub not-accepted : {a : Answer} → 1 ≤ numbersOf a .verdict → a ≡ Accepted → ⊥
+not-accepted h e = omega (arith, ap (λ (a : Answer). numbersOf a .verdict) e)
+
+pub refused : {program memory exec₀ ext₀ exec ext : List ℕ} {pc fp : ℕ} {a : Answer} → 1 ≤ numbersOf a .verdict
+    → a ≡ runOf program memory pc fp exec₀ ext₀ → Ended program memory pc fp exec₀ ext₀ exec ext a
+refused h e = record { answer = e; exec-filled = λ y. absurd (not-accepted h y); ext-filled = λ y. absurd (not-accepted h y) }
 
 zeroed : {a : Answer} → Final a → (numbersOf a .verdict ≡ 0 → ⊥) → (old written : List ℕ) → heldAfter a old written ≡ replicate (length old) 0
 zeroed is-accepted bad old written = absurd (bad refl)
@@ -55,7 +62,7 @@ zeroed (is-open row) bad old written = refl
 
 module _ (program memory : List ℕ) (pc fp : ℕ) (exec₀ ext₀ : List ℕ) where
   last : Final (runOf program memory pc fp exec₀ ext₀)
-  last = final (machineOf program memory) (length ext₀ / 120) (length exec₀ / 32 - 1) (at pc fp) 0 0
+  last = final (machineOf program memory) (at pc fp) (length exec₀ / 32) (length ext₀ / 120)
 
   module _ {exec ext : List ℕ} {a : Answer} (end : Ended program memory pc fp exec₀ ext₀ exec ext a) where
     pub left-filled : numbersOf a .verdict ≡ 0

@@ -1,5 +1,5 @@
-pub mod Looking
 pub mod Standing
-pub mod Going
 pub mod Running
+pub mod Steps
 pub mod Ending
+pub mod Determined

@@ -1,21 +1,12 @@
 -- Which step's row stands where in the extension table: the groups one after the other, and padding past the last.
 -- Assumes nothing.
 use borrow.Author.Tests.{lt-ltb, le-ltb}
-use mathlib.Core.List.{List}
 use mathlib.Core.Path.{_≡_, refl, sym, ap, _∙_}
 use Prim.Native.Nat.{ℕ, zero, suc, _+_, _-_, _<_}
 use native.Mathlib.Nat.{add-zero, zero-add}
 use native.Mathlib.Omega.{arith}
-use Rattle.word.specs.Bytes.{concatenated}
-use Rattle.form.specs.declared.Form.{Form}
-use Rattle.form.specs.declared.Kind.the-variants.{Add, Mul, Deref, Jump, Extension}
-use Rattle.form.specs.declared.Kind.{Kind}
-use Rattle.rows.specs.declared.Ext.{Ext}
-use Rattle.machine.specs.Machine.{Machine, State, value}
-use Rattle.tables.specs.Groups.{groupRow, padding, lengthOf, lengthAt, stepRowBy, stepRow, extRowOf, filled}
-use Rattle.tables.specs.Rows.{formAt}
-use Rattle.tabler_rows.specs.Placed.{extBytes}
-use Rattle.tabler_rows.proofs.Lent.{rows-same}
+use Rattle.machine.specs.Machine.{Machine, State}
+use Rattle.tables.specs.Groups.{padding, lengthAt, stepRow, extRowOf, filled}
 
 module _ (m : Machine) (state : ℕ → State) where
   -- the rows that d steps from step i on fill
@@ -58,37 +49,3 @@ module _ (m : Machine) (state : ℕ → State) where
     past-last j =
         let e : height ≡ height + 0 = omega arith in
         rw (filled-spanned height) (ap (λ (n : ℕ). extRowOf m state 0 n (spanned 0 height + j)) e ∙ past height 0 0 j)
-
--- row j of a step of a kind on three values; only an extension step has rows
-abbrev kindRow : (ℕ → ℕ) → Kind → ℕ → ℕ → ℕ → ℕ → Ext
-kindRow cell Add a b c j = padding cell
-kindRow cell Mul a b c j = padding cell
-kindRow cell Deref a b c j = padding cell
-kindRow cell Jump a b c j = padding cell
-kindRow cell (Extension op be n) a b c j = groupRow cell op be n a b c j
-
--- all those rows
-abbrev pub kindRows : (ℕ → ℕ) → Kind → ℕ → ℕ → ℕ → List ℕ
-kindRows cell kind a b c = concatenated (λ j. extBytes (kindRow cell kind a b c j)) (lengthOf kind)
-
--- the row that the code writes for a step, from its kind and its three values
-kind-row : (m : Machine) (s : State) (f : Form) (a b c j : ℕ)
-    → f ≡ formAt m s → a ≡ value m s (f .a) → b ≡ value m s (f .b) → c ≡ value m s (f .c)
-    → kindRow (m .cell) (f .kind) a b c j ≡ stepRow m s j
-kind-row m s f a b c j e ea eb ec = rw (ea, eb, ec, e) (by (formAt m s .kind))
-  where
-    by : (kind : Kind)
-        → kindRow (m .cell) kind (value m s (formAt m s .a)) (value m s (formAt m s .b)) (value m s (formAt m s .c)) j ≡ stepRowBy m s j kind
-    by Add = refl
-    by Mul = refl
-    by Deref = refl
-    by Jump = refl
-    by (Extension op be n) = refl
-
--- all its rows
-pub kind-rows : (m : Machine) (s : State) (f : Form) (a b c : ℕ)
-    → f ≡ formAt m s → a ≡ value m s (f .a) → b ≡ value m s (f .b) → c ≡ value m s (f .c)
-    → kindRows (m .cell) (f .kind) a b c ≡ concatenated (λ j. extBytes (stepRow m s j)) (lengthOf (f .kind))
-kind-rows m s f a b c e ea eb ec =
-    rows-same (λ j. extBytes (kindRow (m .cell) (f .kind) a b c j)) (λ j. extBytes (stepRow m s j)) (lengthOf (f .kind))
-    (λ j h. ap extBytes (kind-row m s f a b c j e ea eb ec))

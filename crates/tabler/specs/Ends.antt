@@ -1,21 +1,21 @@
--- How the tabler's stages end: the answer, and both tables at return.
+-- Inner: how the tabler's stages end: the answer, and both tables at return.
 use mathlib.Core.List.{List}
 use mathlib.Core.Path.{_≡_}
-use Prim.Native.Nat.{ℕ, _-_, _/_}
+use Prim.Native.Nat.{ℕ, _/_}
 use lib.ListN.{length}
 use Rattle.answer.specs.declared.Answer.the-variants.{Accepted}
 use Rattle.answer.specs.declared.Answer.{Answer}
 use Rattle.tables.specs.Bytes.{execTable, extTable}
 use Rattle.tables.specs.Machine.{machineOf}
 use Rattle.tables.specs.Rows.{stateAt}
-use Rattle.tabler_spec.specs.Tabled.{running, heldAfter}
+use Rattle.tabler_spec.specs.Tabled.{ending, heldAfter}
 use Rattle.tabler_operands.specs.Looked.{at}
 
 -- what the tabler is handed: the start and the bytes, those of the tables as they are at entry
 module _ (program memory : List ℕ) (pc fp : ℕ) (exec₀ ext₀ : List ℕ) where
   -- the answer of the run itself
   abbrev pub runOf : Answer
-  runOf = running (machineOf program memory) (length ext₀ / 120) (length exec₀ / 32 - 1) (at pc fp) 0 0
+  runOf = ending (machineOf program memory) (at pc fp) (length exec₀ / 32) (length ext₀ / 120)
 
   -- both tables of the run
   abbrev pub execOf : List ℕ

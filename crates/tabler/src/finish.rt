@@ -1,6 +1,6 @@
 // A run to its end: the tables filled, or all zero.
+use crate::clear::clear;
 use crate::run::run;
-use crate::write::clear;
 use answer::Answer;
 use answer::four_numbers;
 ghost use lib.ListN.{length};
@@ -9,7 +9,7 @@ ghost use Rattle.tabler.specs.Ends.{runOf, Tabling};
 ghost use Rattle.inputs.specs.Words.{WellFormed};
 
 // 9 to 11 leave both tables all zero.
-pub fn finish(
+pub(crate) fn finish(
     program: &[u8],
     memory: &[u8],
     pc: u32,

@@ -1,9 +1,9 @@
 // The tabler: a program, a memory and a start, to the two tables of the run.
+mod clear;
+mod fetch;
 mod finish;
 mod run;
-mod step;
 mod tests;
-mod write;
 
 use answer::Answer;
 use inputs::bad_part;

@@ -14,7 +14,7 @@ ghost use Rattle.tabler_spec.specs.Tabled.{startFits};
 ghost use Rattle.tabler.specs.Ends.{runOf, Tabling};
 
 // 2 to 4 change no byte.
-pub fn table_words(
+pub(crate) fn table_words(
     program: &[u8],
     memory: &[u8],
     pc: u64,

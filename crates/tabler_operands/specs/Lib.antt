@@ -1,2 +1,2 @@
 pub mod Looked
-pub mod Joined
+pub mod Elements

@@ -1,14 +1,15 @@
--- What the code reads of a step's operands, once: whether each is legal, its address column, the cell there, and its value.
-use mathlib.Core.Bool.{_&&_}
+-- Inner: what the code reads of a step's operands: whether each is legal, its address column, the cell there, its value.
+use mathlib.Core.Bool.{true, _&&_}
 use Prim.Native.Nat.{ℕ}
 use lib.Dec.{ltb}
+use Rattle.word.specs.Word.{_+ₚ_}
 use Rattle.form.specs.declared.Form.{Form}
 use Rattle.form.specs.declared.Kind.the-variants.{Add, Mul, Deref, Jump, Extension}
 use Rattle.form.specs.declared.Kind.{Kind}
+use Rattle.form.specs.declared.Mode.the-variants.{Immediate, Cell, Frame}
+use Rattle.form.specs.declared.Mode.{Mode}
 use Rattle.form.specs.declared.Operand.{Operand}
-use Rattle.machine.specs.Machine.{Machine, State, value, legal}
-use Rattle.machine.specs.Step.{target}
-use Rattle.tables.specs.Rows.{column}
+use Rattle.machine.specs.Machine.{State}
 use Rattle.tabler_operands.specs.declared.Looked.{Looked}
 use Rattle.tabler_operands.specs.declared.Operands.{Operands}
 
@@ -16,19 +17,25 @@ use Rattle.tabler_operands.specs.declared.Operands.{Operands}
 abbrev pub at : ℕ → ℕ → State
 at pc fp = record { pc = pc; fp = fp }
 
-abbrev pub lookedOf : Machine → State → Operand → Looked
-lookedOf m s o = record { legal = legal m s o; addr = column s o; cell = m .cell (column s o); value = value m s o }
+-- a memory of so many cells, and the frame
+module _ (cells : ℕ → ℕ) (size fp : ℕ) where
+  abbrev pub lookedBy : ℕ → Mode → Looked
+  lookedBy word Immediate = record { legal = true; addr = 0; cell = cells 0; value = word }
+  lookedBy word Cell = let k = fp +ₚ word in record { legal = ltb k size; addr = k; cell = cells k; value = cells k }
+  lookedBy word Frame = record { legal = true; addr = 0; cell = cells 0; value = fp +ₚ word }
 
--- DEREF's operand B: the target at a cell k has to exist too
-abbrev pub targeted : (ℕ → ℕ) → ℕ → ℕ → Looked → Looked
-targeted cell size k b = record { legal = b .legal && ltb k size; addr = k; cell = cell k; value = b .value }
+  abbrev pub lookedOf : Operand → Looked
+  lookedOf o = lookedBy (o .word) (o .mode)
 
-abbrev pub lookedB : Machine → State → Form → Kind → Looked
-lookedB m s f Add = lookedOf m s (f .b)
-lookedB m s f Mul = lookedOf m s (f .b)
-lookedB m s f Deref = targeted (m .cell) (m .size) (target m s f) (lookedOf m s (f .b))
-lookedB m s f Jump = lookedOf m s (f .b)
-lookedB m s f (Extension op be n) = lookedOf m s (f .b)
+  -- operand B, by A's value: DEREF's target has to exist too
+  abbrev pub lookedB : ℕ → Operand → Kind → Looked
+  lookedB a b Add = lookedOf b
+  lookedB a b Mul = lookedOf b
+  lookedB a b Deref =
+      let k = a +ₚ b .word in
+      record { legal = lookedOf b .legal && ltb k size; addr = k; cell = cells k; value = lookedOf b .value }
+  lookedB a b Jump = lookedOf b
+  lookedB a b (Extension op be n) = lookedOf b
 
-abbrev pub operandsOf : Machine → State → Form → Operands
-operandsOf m s f = record { a = lookedOf m s (f .a); b = lookedB m s f (f .kind); c = lookedOf m s (f .c) }
+  abbrev pub operandsOf : Form → Operands
+  operandsOf f = record { a = lookedOf (f .a); b = lookedB (lookedOf (f .a) .value) (f .b) (f .kind); c = lookedOf (f .c) }

@@ -1,4 +1,4 @@
-// What a step's operands read: each is looked at once, for the step and for its row.
+// What a step's operands read: each is looked at once, for the step and for its row. No program and no pc is asked for.
 use crate::Looked;
 use crate::Operands;
 use form::Form;
@@ -8,18 +8,14 @@ use form::Operand;
 use tabler_cells::cell;
 use word::add;
 ghost use mathlib.Core.Path.{_≡_};
-ghost use mathlib.Core.List.{List};
-ghost use Prim.Native.Nat.{ℕ, _/_};
+ghost use Prim.Native.Nat.{_/_};
 ghost use lib.ListN.{length};
-ghost use Rattle.word.specs.Word.{_+ₚ_};
 ghost use Rattle.rules.specs.Sizes.{wordOf};
-ghost use Rattle.machine.specs.Machine.{value};
-ghost use Rattle.tables.specs.Machine.{machineOf};
-ghost use Rattle.tabler_operands.specs.Looked.{at, lookedOf, targeted, lookedB, operandsOf};
+ghost use Rattle.tabler_operands.specs.Looked.{lookedOf, lookedB, operandsOf};
 
 // A cell read is legal where the cell exists; an operand that reads none has column 0.
 fn look(memory: &[u8], fp: u32, o: Operand) -> Looked
-    ensures { λ r. ⌜ ((program : List ℕ) (pc : ℕ) → r ≡ lookedOf (machineOf program (now (memory .entry))) (at pc fp) o) ⌝ }
+    ensures { λ r. ⌜ r ≡ lookedOf (wordOf (now (memory .entry))) (length (now (memory .entry)) / 4) fp o ⌝ }
 {
     let mode = o.mode;
     match mode {
@@ -48,22 +44,9 @@ fn look(memory: &[u8], fp: u32, o: Operand) -> Looked
     }
 }
 
-// DEREF's target is the cell at A's value plus β.
-fn look_target(memory: &[u8], a: u32, word: u32, b: Looked) -> Looked
-    ensures { λ r. ⌜ r ≡ targeted (wordOf (now (memory .entry))) (length (now (memory .entry)) / 4) (a +ₚ word) b ⌝ }
-{
-    let k = add(a, word);
-    Looked {
-        legal: b.legal & ((k as usize) < memory.len() / 4),
-        addr: k,
-        cell: cell(memory, k as usize),
-        value: b.value,
-    }
-}
-
-// Operand B, where A's value is a: DEREF has its target's column.
+// Operand B, where A's value is a: DEREF's column is its target, the cell at a + β.
 fn look_b(memory: &[u8], fp: u32, f: Form, a: u32) -> Looked
-    ensures { λ r. ⌜ ((program : List ℕ) (pc : ℕ) → a ≡ value (machineOf program (now (memory .entry))) (at pc fp) (f .a) → r ≡ lookedB (machineOf program (now (memory .entry))) (at pc fp) f (f .kind)) ⌝ }
+    ensures { λ r. ⌜ r ≡ lookedB (wordOf (now (memory .entry))) (length (now (memory .entry)) / 4) fp a (f .b) (f .kind) ⌝ }
 {
     let kind = f.kind;
     let b = f.b;
@@ -71,7 +54,15 @@ fn look_b(memory: &[u8], fp: u32, f: Form, a: u32) -> Looked
     match kind {
         Kind::Add => x,
         Kind::Mul => x,
-        Kind::Deref => look_target(memory, a, b.word, x),
+        Kind::Deref => {
+            let k = add(a, b.word);
+            Looked {
+                legal: x.legal & ((k as usize) < memory.len() / 4),
+                addr: k,
+                cell: cell(memory, k as usize),
+                value: x.value,
+            }
+        }
         Kind::Jump => x,
         Kind::Extension { op: _, be: _, n: _ } => x,
     }
@@ -79,7 +70,7 @@ fn look_b(memory: &[u8], fp: u32, f: Form, a: u32) -> Looked
 
 // All three operands, on an untaken jump too.
 pub fn look_all(memory: &[u8], fp: u32, f: Form) -> Operands
-    ensures { λ r. ⌜ ((program : List ℕ) (pc : ℕ) → r ≡ operandsOf (machineOf program (now (memory .entry))) (at pc fp) f) ⌝ }
+    ensures { λ r. ⌜ r ≡ operandsOf (wordOf (now (memory .entry))) (length (now (memory .entry)) / 4) fp f ⌝ }
 {
     let a = f.a;
     let c = f.c;

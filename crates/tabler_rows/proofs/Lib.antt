@@ -1,1 +1,2 @@
 pub mod Lent
+mod Comp

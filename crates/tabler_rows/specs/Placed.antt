@@ -1,14 +1,13 @@
--- Rows that the code puts in the place of other bytes of a table.
-use mathlib.Core.Bool.{cond}
+-- Inner: rows that the code puts in the place of other bytes of a table.
 use mathlib.Core.List.{List, _++_}
-use Prim.Native.Nat.{ℕ, _+_, _-_, _*_, _/_}
-use lib.Dec.{ltb}
+use Prim.Native.Nat.{ℕ, _-_, _*_, _/_}
 use lib.ListN.{length, take, drop}
 use Rattle.word.specs.Bytes.{concatenated}
 use Rattle.rows.specs.Rows.{bytesOfWords, execWords, extWords}
 use Rattle.rows.specs.declared.Exec.{Exec}
 use Rattle.rows.specs.declared.Ext.{Ext}
-use Rattle.tables.specs.Groups.{padding}
+use Rattle.tables.specs.Groups.{groupRow, padding}
+use Rattle.tabler_operands.specs.declared.Group.{Group}
 use Rattle.tabler_operands.specs.declared.Operands.{Operands}
 
 -- the 32 bytes of an execution row, and the 120 of an extension row
@@ -36,9 +35,12 @@ rowBy pc fp o =
       valueC = o .c .cell;
     }
 
--- the execution table with a row in the place of row r; as it is where it has no row r
-abbrev pub withRow : Exec → ℕ → List ℕ → List ℕ
-withRow x r exec = cond (ltb r (length exec / 32)) (placed exec (32 * r) (32 * r + 32) (execBytes x)) exec
+-- row j of a group, and all its rows
+abbrev pub rowIn : (ℕ → ℕ) → Group → ℕ → Ext
+rowIn cell g j = groupRow cell (g .op) (g .be) (g .n) (g .a) (g .b) (g .c) j
+
+abbrev pub groupBytes : (ℕ → ℕ) → Group → List ℕ
+groupBytes cell g = concatenated (λ j. extBytes (rowIn cell g j)) (g .n)
 
 -- the extension table with padding in the place of every row after those filled
 abbrev pub withPadding : (ℕ → ℕ) → ℕ → List ℕ → List ℕ

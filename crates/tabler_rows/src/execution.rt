@@ -3,7 +3,9 @@ use rows::Exec;
 use rows::put_exec;
 use tabler_operands::Operands;
 ghost use mathlib.Core.Path.{_≡_};
-ghost use Rattle.tabler_rows.specs.Placed.{rowBy, withRow};
+ghost use Prim.Native.Nat.{_+_, _*_, _≤_};
+ghost use lib.ListN.{length};
+ghost use Rattle.tabler_rows.specs.Placed.{execBytes, placed, rowBy};
 
 // The execution row of a state whose operands were looked at.
 fn row_of(pc: u32, fp: u32, o: Operands) -> Exec
@@ -26,11 +28,9 @@ fn row_of(pc: u32, fp: u32, o: Operands) -> Exec
 
 // That row, through the 32 bytes of row r.
 pub fn put_row(pc: u32, fp: u32, o: Operands, r: usize, exec: &mut [u8])
-    ensures { λ _. ⌜ now (exec .exit) ≡ withRow (rowBy pc fp o) r (now (exec .entry)) ⌝ }
+    requires { ⌜ 32 * r + 32 ≤ length (now exec) ⌝ }
+    ensures { λ _. ⌜ now (exec .exit) ≡ placed (now (exec .entry)) (32 * r) (32 * r + 32) (execBytes (rowBy pc fp o)) ⌝ }
 {
-    if exec.len() / 32 <= r {
-        return;
-    }
     let row = row_of(pc, fp, o);
     let at = 32 * r;
     let end = at + 32;

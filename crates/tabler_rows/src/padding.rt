@@ -2,9 +2,8 @@
 use rows::Ext;
 use rows::put_ext;
 use tabler_cells::cell;
-use tabler_cells::element_at;
 ghost use mathlib.Core.Path.{_≡_};
-ghost use Prim.Native.Nat.{_/_, _%_};
+ghost use Prim.Native.Nat.{_/_, _%_, _≤_};
 ghost use lib.ListN.{length};
 ghost use Rattle.word.specs.Bytes.{concatenated};
 ghost use Rattle.rules.specs.Sizes.{wordOf};
@@ -15,7 +14,13 @@ ghost use Rattle.tabler_rows.specs.Placed.{extBytes, withPadding};
 fn padding_row(memory: &[u8]) -> Ext
     ensures { λ r. ⌜ r ≡ padding (wordOf (now (memory .entry))) ⌝ }
 {
-    let five = element_at(memory, 0);
+    let five = [
+        cell(memory, 0),
+        cell(memory, 1),
+        cell(memory, 2),
+        cell(memory, 3),
+        cell(memory, 4),
+    ];
     Ext {
         start: 1,
         add: 0,
@@ -26,7 +31,7 @@ fn padding_row(memory: &[u8]) -> Ext
         idxB: 0,
         idxR: 0,
         be: 0,
-        base: cell(memory, 0),
+        base: five[0],
         vA: five,
         vB: five,
         comp: five,
@@ -50,13 +55,10 @@ fn put_padding(memory: &[u8], part: &mut [u8])
 
 // Padding in every row after those filled.
 pub fn pad(memory: &[u8], filled: usize, ext: &mut [u8])
+    requires { ⌜ filled ≤ length (now ext) / 120 ⌝ }
     ensures { λ _. ⌜ now (ext .exit) ≡ withPadding (wordOf (now (memory .entry))) filled (now (ext .entry)) ⌝ }
 {
-    let rows = ext.len() / 120;
-    if rows < filled {
-        return;
-    }
     let from = 120 * filled;
-    let to = 120 * rows;
+    let to = 120 * (ext.len() / 120);
     put_padding(memory, &mut ext[from..to]);
 }

@@ -1,6 +1,6 @@
 -- Document 01, "The tabler" and "Verdicts" 1 to 4 and 9 to 11: the tabler's answer, and both tables at return.
-use Prim.Native.Nat.{ℕ, zero, suc, _+_, _-_, _/_}
-use mathlib.Core.Bool.{Bool, _&&_, cond}
+use Prim.Native.Nat.{ℕ, suc, _+_, _-_, _/_}
+use mathlib.Core.Bool.{Bool, true, false, _&&_, cond}
 use mathlib.Core.List.{List, []}
 use lib.ListN.{length, replicate}
 use lib.Dec.{leb, ltb, eqb}
@@ -26,35 +26,42 @@ use Rattle.machine.specs.Machine.{Machine, State}
 use Rattle.machine.specs.Step.{Outcome, goes, stuck, step}
 use Rattle.tables.specs.Machine.{machineOf}
 use Rattle.tables.specs.Rows.{stateAt}
-use Rattle.tables.specs.Groups.{lengthAt}
+use Rattle.tables.specs.Groups.{filled}
 use Rattle.tables.specs.Bytes.{execTable, extTable}
 use Rattle.rules.specs.Sizes.{given}
+use Rattle.judge_spec.specs.First.{first}
 use Rattle.judge_spec.specs.Judged.{sizes, words, instructions}
 
 abbrev pub sameState : State → State → Bool
 sameState s t = eqb (s .pc) (t .pc) && eqb (s .fp) (t .fp)
 
--- stuck at row r, or what comes of the next state
-abbrev pub onStep : Outcome → ℕ → (State → Answer) → Answer
-onStep (stuck rule) r onward = Stuck r rule
-onStep (goes t) r onward = onward t
+abbrev pub isLegal : Outcome → Bool
+isLegal (goes t) = true
+isLegal (stuck rule) = false
 
--- the run from row r at state s, with so many extension rows filled and n rows after it: STUCK before ROOM in a row, earlier rows first, OPEN last.
--- A group needs room for itself and one row more
-unfoldable pub running : Machine → ℕ → ℕ → State → ℕ → ℕ → Answer
-running m room zero s r filled =
-    onStep (step m s) r
-    (λ t. cond (leb (filled + lengthAt m s + 1) room) (cond (sameState t s) Accepted (Open r)) (Room r))
-running m room (suc n) s r filled =
-    onStep (step m s) r
-    (λ t. cond (leb (filled + lengthAt m s + 1) room) (running m room n t (suc r) (filled + lengthAt m s)) (Room r))
+-- a row's step is legal, and its group brings the lengths so far, plus 1, not above K
+abbrev pub rowPasses : Machine → (ℕ → State) → ℕ → ℕ → Bool
+rowPasses m state extHeight r = isLegal (step m (state r)) && leb (filled m state (suc r) + 1) extHeight
+
+-- a row that doesn't pass: STUCK comes before ROOM
+abbrev pub refusedAt : ℕ → Outcome → Answer
+refusedAt r (stuck rule) = Stuck r rule
+refusedAt r (goes t) = Room r
+
+-- how a run of H rows ends: by the first row that doesn't pass; else OPEN where the last step doesn't stay
+unfoldable pub ending : Machine → State → ℕ → ℕ → Answer
+ending m start height extHeight =
+    let state = stateAt m start in
+    let r = first (rowPasses m state extHeight) 0 height in
+    cond (ltb r height) (refusedAt r (step m (state r)))
+    (cond (sameState (state height) (state (height - 1))) Accepted (Open (height - 1)))
 
 -- 4 START: a start number at or above p
 abbrev pub startFits : ℕ → ℕ → Answer → Answer
 startFits pc fp then = cond (ltb pc p && ltb fp p) then Start
 
--- the tabler's answer: program, memory, start, and the lengths of both tables in bytes. 1 SIZE, 2 WORD in program and memory and 3 INSTRUCTION
--- are tested as the judge tests them
+-- the tabler's answer: program, memory, start, and the lengths of both tables in bytes. 1 SIZE, 2 WORD in program and
+-- memory and 3 INSTRUCTION are tested as the judge tests them
 unfoldable pub tableOf : List ℕ → List ℕ → ℕ → ℕ → ℕ → ℕ → Answer
 tableOf program memory pc fp exec ext =
     sizes (length program) (length memory) exec ext
@@ -62,7 +69,7 @@ tableOf program memory pc fp exec ext =
     (words 2 memory
     (instructions (given program [])
     (startFits pc fp
-    (running (machineOf program memory) (ext / 120) (exec / 32 - 1) (record { pc = pc; fp = fp }) 0 0)))))
+    (ending (machineOf program memory) (record { pc = pc; fp = fp }) (exec / 32) (ext / 120))))))
 
 -- what a table holds at return: verdicts 1 to 4 change nothing, 9 to 11 leave zeros, ACCEPTED fills every byte
 abbrev pub heldAfter : Answer → List ℕ → List ℕ → List ℕ

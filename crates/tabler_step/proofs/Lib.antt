@@ -1,1 +1,1 @@
-pub mod Legal
+mod Rooms

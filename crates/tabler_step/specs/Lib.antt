@@ -1,2 +1,1 @@
-pub mod Moves
 pub mod Taken

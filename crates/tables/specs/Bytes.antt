@@ -1,4 +1,4 @@
--- Document 01, "Layouts" and "The tabler": the two tables of a run as bytes, H execution rows and K extension rows, one after the other.
+-- Document 01, "Layouts" and "The tabler": the two tables of a run as bytes, H execution rows and K extension rows.
 use Prim.Native.Nat.{ℕ}
 use mathlib.Core.List.{List}
 use Rattle.word.specs.Bytes.{concatenated}

@@ -1,4 +1,5 @@
--- Document 01, "The tabler"; draft 0.6.0, 3.5.1: an extension step's group of N rows, the groups in execution order, and the padding.
+-- Document 01, "The tabler"; draft 0.6.0, 3.5.1: an extension step's group of N rows, the groups in execution order,
+-- and the padding.
 use Prim.Native.Nat.{ℕ, zero, suc, _+_, _-_, _*_}
 use mathlib.Core.Bool.{Bool, true, false, cond}
 use lib.Dec.{ltb, eqb}
@@ -32,7 +33,7 @@ abbrev pub leftIndex : Bool → ℕ → ℕ → ℕ
 leftIndex true a j = a + j
 leftIndex false a j = a + 5 * j
 
--- row j of a group on n elements: idxR is constant, and comp is the sum or product of what is left, accumulated backward
+-- row j of a group on n elements: idxR is constant, and comp is the sum or product of what is left
 unfoldable pub groupRow : (ℕ → ℕ) → Op → Bool → ℕ → ℕ → ℕ → ℕ → ℕ → Ext
 groupRow cell op be n a b c j =
     record {
@@ -83,20 +84,21 @@ lengthOf (Extension op be n) = n
 abbrev pub lengthAt : Machine → State → ℕ
 lengthAt m s = lengthOf (formAt m s .kind)
 
--- row j of the group of a step, by its kind; only an extension step has one
+-- row j of the group of a step, by its kind and its operands' values; only an extension step has one
+abbrev pub kindRow : (ℕ → ℕ) → Kind → ℕ → ℕ → ℕ → ℕ → Ext
+kindRow cell AddKind a b c j = padding cell
+kindRow cell MulKind a b c j = padding cell
+kindRow cell Deref a b c j = padding cell
+kindRow cell Jump a b c j = padding cell
+kindRow cell (Extension op be n) a b c j = groupRow cell op be n a b c j
+
 abbrev pub stepRowBy : Machine → State → ℕ → Kind → Ext
-stepRowBy m s j AddKind = padding (m .cell)
-stepRowBy m s j MulKind = padding (m .cell)
-stepRowBy m s j Deref = padding (m .cell)
-stepRowBy m s j Jump = padding (m .cell)
-stepRowBy m s j (Extension op be n) =
-    let f = formAt m s in
-    groupRow (m .cell) op be n (value m s (f .a)) (value m s (f .b)) (value m s (f .c)) j
+stepRowBy m s j kind = let f = formAt m s in kindRow (m .cell) kind (value m s (f .a)) (value m s (f .b)) (value m s (f .c)) j
 
 abbrev pub stepRow : Machine → State → ℕ → Ext
 stepRow m s j = stepRowBy m s j (formAt m s .kind)
 
--- row k of the extension table over n steps from row r on: of the step whose group reaches it, and padding past the last group
+-- row k of the extension table over n steps from row r on: of the step whose group reaches it, or padding
 unfoldable pub extRowOf : Machine → (ℕ → State) → ℕ → ℕ → ℕ → Ext
 extRowOf m state r zero k = padding (m .cell)
 extRowOf m state r (suc n) k =

@@ -1,11 +1,13 @@
 -- Past the last cell, whole or cut short, there is no byte.
 use borrow.Author.Needs.{needs}
-use Rattle.tabler_cells.proofs.Past.{no-cell}
+use Prim.Native.Nat.{_*_}
+use native.Mathlib.Omega.{arith}
+use Rattle.word.proofs.FourBytes.{past}
 use Rattle.tabler_cells.proofs.cell.Statement.{statement}
 use Rattle.tabler_cells.proofs.cell.Tie as tie
 
 returns-2 : tie.Need-returns-2
-returns-2 c = let s = c .before .before .before .args in no-cell (s .memory .now) (s .k) (c .if2 .taken)
+returns-2 c = let s = c .before .before .before .args in past (s .memory .now) (4 * s .k) (omega arith)
 
 pub cell-spec : {M : Type 1} → statement M
 cell-spec =

@@ -1,7 +1,7 @@
 -- Where the condition is 1 the jump is taken; else it has to be 0.
-use borrow.Author.Needs.{needs}
 use borrow.Author.Tests.{ne-eqb}
 use mathlib.Core.Bool.{or-false}
+use borrow.Author.Needs.{needs}
 use Rattle.tabler_step.proofs.jump.Statement.{statement}
 use Rattle.tabler_step.proofs.jump.Tie as tie
 

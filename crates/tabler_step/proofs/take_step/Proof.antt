@@ -1,58 +1,33 @@
--- Each return is by the first test that fails, in STUCK's order.
+-- Each return is by the first operand that is not legal, in STUCK's order.
+use borrow.Author.Tests.{not-true, not-false}
+use mathlib.Core.Path.{refl}
 use borrow.Author.Needs.{needs}
-use borrow.Author.Tests.{le-ltb, lt-ltb, not-true, not-false}
-use mathlib.Core.Path.{refl, ap, _∙_}
-use Rattle.tabler_step.specs.Moves.{movedOf}
-use Rattle.tabler_step.proofs.Legal.{outcome-asked, ext-asked}
+use Rattle.tabler_step.proofs.Rooms.{all-legal, halts}
 use Rattle.tabler_step.proofs.take_step.Statement.{statement}
 use Rattle.tabler_step.proofs.take_step.Tie as tie
 
 returns : tie.Need-returns
-returns c = rw (le-ltb _ _ (c .if1 .taken)) (refl, refl)
+returns c =
+    let s = c .before .before .before .before .before .before .before in
+    rw (not-true (s .args .o .a .legal) (c .if1 .taken)) (halts 2 refl _ _ _ _)
 
 returns-2 : tie.Need-returns-2
 returns-2 c =
-    let o = c .before .before .before .before .before .before .before .before .args .o in
-    rw (lt-ltb _ _ (c .before .before .if1 .left), not-true (o .a .legal) (c .if2 .taken)) (refl, refl)
+    let s = c .before .before .before .before .before .before .before .before .before in
+    rw (not-false (s .args .o .a .legal) (c .before .before .if1 .left), not-true (s .args .o .b .legal) (c .if2 .taken)) (halts 3 refl _ _ _ _)
 
 returns-3 : tie.Need-returns-3
 returns-3 c =
-    let e2 = c .before .before in
-    let e1 = e2 .before .before in
-    let o = e1 .before .before .before .before .before .before .args .o in
-    rw (lt-ltb _ _ (e1 .if1 .left), not-false (o .a .legal) (e2 .if2 .left), not-true (o .b .legal) (c .if3 .taken)) (refl, refl)
+    let s = c .before .before .before .before .before .before .before .before .before .before .before in
+    rw (not-false (s .args .o .a .legal) (c .before .before .before .before .if1 .left), not-false (s .args .o .b .legal) (c .before .before .if2 .left), not-true (s .args .o .c .legal) (c .if3 .taken)) (halts 4 refl _ _ _ _)
 
 returns-4 : tie.Need-returns-4
 returns-4 c =
-    let e3 = c .before .before in
-    let e2 = e3 .before .before in
-    let e1 = e2 .before .before in
-    let o = e1 .before .before .before .before .before .before .args .o in
-    rw (lt-ltb _ _ (e1 .if1 .left), not-false (o .a .legal) (e2 .if2 .left), not-false (o .b .legal) (e3 .if3 .left), not-true (o .c .legal) (c .if4 .taken)) (refl, refl)
-
-returns-5 : tie.Need-returns-5
-returns-5 c =
-    let e4 = c .before .before .before .before in
-    let e3 = e4 .before .before in
-    let e2 = e3 .before .before in
-    let e1 = e2 .before .before in
-    let s = e1 .before .before .before .before .before .before .args in
-    let o = s .o in
-    let x = c .before .before .perform .ensures in
-    let inside = lt-ltb _ _ (e1 .if1 .left) in
-    let la = not-false (o .a .legal) (e2 .if2 .left) in
-    let lb = not-false (o .b .legal) (e3 .if3 .left) in
-    let lc = not-false (o .c .legal) (e4 .if4 .left) in
-    (x .0 ∙ ap movedOf (outcome-asked inside la lb lc), x .1 ∙ ext-asked inside la lb lc (s .ext .now))
+    let t = c .before .before .before .before in
+    let s = t .before .before .before .before .before .before .before .before .before .before .before in
+    all-legal (not-false (s .args .o .a .legal) (t .before .before .before .before .if1 .left)) (not-false (s .args .o .b .legal) (t .before .before .if2 .left)) (not-false (s .args .o .c .legal) (t .if3 .left))
+    _ _ _ _ _ (c .before .before .perform .ensures)
 
 pub take-step-spec : {M : Type 1} → statement M
 take-step-spec =
-    tie.close
-    (tie.spec
-    returns
-    returns-2
-    returns-3
-    returns-4
-    (λ c κs. search needs)
-    (λ c. search needs)
-    returns-5)
+    tie.close (tie.spec returns returns-2 returns-3 (λ c κs. search needs) (λ c. search needs) returns-4)

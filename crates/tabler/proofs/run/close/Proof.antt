@@ -1,12 +1,13 @@
 -- By whether the last step stays; padding stands where it was lent.
 use borrow.Author.Needs.{needs}
+use native.Mathlib.Omega.{arith}
 use borrow.Author.Tests.{not-true, not-false}
-use Rattle.tabler.proofs.Running.{open-no}
+use Rattle.tabler.proofs.Ending.{not-accepted}
 use Rattle.tabler.proofs.run.close.Statement.{statement}
 use Rattle.tabler.proofs.run.close.Tie as tie
 
 returns : tie.Need-returns
-returns c = let s = c .before .before .before .args in (rw (not-true (s .stays) (c .if1 .taken)), λ y. absurd (open-no y))
+returns c = let s = c .before .before .before .args in (rw (not-true (s .stays) (c .if1 .taken)), λ y. absurd (not-accepted (omega arith) y))
 
 returns-2 : tie.Need-returns-2
 returns-2 c =

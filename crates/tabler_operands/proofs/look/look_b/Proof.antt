@@ -1,22 +1,24 @@
--- In each arm the kind is known; DEREF's target is the sum of two values.
+-- In each arm the kind is known; only DEREF has a target.
 use borrow.Author.Needs.{needs}
 use Rattle.tabler_operands.proofs.look.look_b.Statement.{statement}
 use Rattle.tabler_operands.proofs.look.look_b.Tie as tie
 
 returns : tie.Need-returns
-returns c program pc e = rw (c .enum-told .given .1) (c .before .before .look .ensures program pc)
+returns c = rw (c .enum-told .given .1) (c .before .before .look .ensures)
 
 returns-2 : tie.Need-returns-2
-returns-2 c program pc e = rw (c .enum-told2 .given .1) (c .before .before .look .ensures program pc)
+returns-2 c = rw (c .enum-told2 .given .1) (c .before .before .look .ensures)
 
 returns-3 : tie.Need-returns-3
-returns-3 c program pc e = rw (c .before .enum-told3 .given .1) (rw (c .before .before .before .look .ensures program pc, e) at (c .look-target .ensures))
+returns-3 c =
+    let l = c .before .before .before .before .before in
+    rw (c .before .before .before .enum-told3 .given .1, ← l .look .ensures, ← c .before .before .add .ensures, ← c .cell .ensures)
 
 returns-4 : tie.Need-returns-4
-returns-4 c program pc e = rw (c .enum-told4 .given .1) (c .before .before .look .ensures program pc)
+returns-4 c = rw (c .enum-told4 .given .1) (c .before .before .look .ensures)
 
 returns-5 : tie.Need-returns-5
-returns-5 c program pc e = rw (c .enum-told5 .given .1) (c .before .before .look .ensures program pc)
+returns-5 c = rw (c .enum-told5 .given .1) (c .before .before .look .ensures)
 
 pub look-b-spec : {M : Type 1} → statement M
 look-b-spec =
@@ -24,6 +26,9 @@ look-b-spec =
     (tie.spec
     (λ c κs. search needs)
     (λ c. search needs)
+    (λ c. search needs)
+    (λ c. search needs)
+    (λ c κs. search needs)
     (λ c. search needs)
     (λ c. search needs)
     (λ c κs. search needs)

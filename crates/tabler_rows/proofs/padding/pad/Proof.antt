@@ -1,23 +1,18 @@
--- Padding stands where it was lent; where no row is left nothing changes.
-use borrow.Author.Needs.{needs}
+-- Padding stands where it was lent.
 use mathlib.Core.List.{List}
 use mathlib.Core.Path.{_≡_, ap}
 use Prim.Native.Nat.{ℕ, _*_, _/_, _-_}
 use native.Mathlib.Omega.{arith}
 use lib.ListN.{length, take, drop}
 use Rattle.tabler_rows.specs.Placed.{placed}
-use Rattle.tabler_rows.proofs.Lent.{rest-length, none-placed, no-rows}
+use Rattle.tabler_rows.proofs.Lent.{rest-length}
+use borrow.Author.Needs.{needs}
 use Rattle.tabler_rows.proofs.padding.pad.Statement.{statement}
 use Rattle.tabler_rows.proofs.padding.pad.Tie as tie
 
 returns : tie.Need-returns
 returns c =
-    let s = c .before .before .before .args in
-    none-placed (s .ext .now) (120 * s .filled) (120 * (length (s .ext .now) / 120)) (omega arith) (no-rows _ (omega arith))
-
-returns-2 : tie.Need-returns-2
-returns-2 c =
-    let s = c .before .before .before .before .before .before .before .args in
+    let s = c .before .before .before .before .before .before .args in
     let ext = s .ext .now in
     let at = 120 * s .filled in
     let end = 120 * (length ext / 120) in
@@ -28,7 +23,6 @@ pub pad-spec : {M : Type 1} → statement M
 pad-spec =
     tie.close
     (tie.spec
-    returns
     (λ c. search needs)
     (λ c. search needs)
     (λ c. search needs)
@@ -36,4 +30,4 @@ pad-spec =
     (λ c. search needs)
     (λ c κs. search needs)
     (λ c. search needs)
-    returns-2)
+    returns)
