@@ -2,7 +2,8 @@
 
 Public means exported from its crate. An entry, one of ENTRIES, is what a program, a C call or a customer hands bytes to: it has no `requires`.
 Every other public function is inner: it may have a `requires`, which each caller proves. Of both kinds the promise is an equation for the answer
-(of a struct: for the whole, or for each field) and one for each lent buffer's exit. A promise that is none is named in docs/EXCEPTIONS.md, in backquotes
+(of a struct: for the whole, or for each field, where a record of specs/ that is equations of its parameters counts as these) and one for
+each lent buffer's exit. A promise that is none is named in docs/EXCEPTIONS.md, in backquotes
 at a line's start, and argued for there; a name there that needs no excuse is a fault too. What no other crate needs is `pub(crate)`."""
 import pathlib
 import re
@@ -19,6 +20,7 @@ FUNCTION = re.compile(r"^(\s*)pub (?:extern \"C\" )?fn (\w+)")
 EXPORT = re.compile(r"^pub use [\w:]*?(\w+);$", re.M)
 EXCEPTION = re.compile(r"^- `([\w:]+)`", re.M)
 STRUCT = re.compile(r"^(?:pub )?struct (\w+) \{\n(.*?)^\}", re.M | re.S)
+RECORD = re.compile(r"^pub record (\w+) (.*?) : Type 0 where\n((?:  .*\n)+)", re.M)
 CLAUSE = re.compile(r"^\s*(requires|ensures) \{(.*?)\}\s*$(?=\s*(?:requires|ensures|\{|\Z))", re.M | re.S)
 
 
@@ -48,17 +50,34 @@ def structs():
     return fields
 
 
-def determines(promise, returned, fields):
+def records():
+    """The records of specs/ whose every field is an equation for another of their parameters."""
+    found = set()
+    for spec in ROOT.glob("crates/*/specs/*.antt"):
+        for name, parameters, body in RECORD.findall(spec.read_text()):
+            named = [one for group in re.findall(r"\(([^:()]+):", parameters) for one in group.split()]
+            said = re.findall(r"^ +pub [\w-]+ : (.*)$", body, re.M)
+            sides = [re.match(r"(\w+) ≡ ", fact) for fact in said]
+            if said and all(side and side[1] in named for side in sides) and len({side[1] for side in sides}) == len(said):
+                found.add(name)
+    return found
+
+
+def determines(promise, returned, fields, equations):
     """Whether the promise has an equation for an answer of this type."""
     for binder, fact in re.findall(r"λ (\w+)\.(.*?)(?=λ \w+\. (?:do )?⌜|\Z)", promise, re.S):
         if re.search(rf"(?:^|[\s(⌜])(?:\w+ {binder}|cond {binder} 1 0|{binder}) ≡", fact):
             return True
-        if fields.get(returned) and fields[returned] <= set(re.findall(rf"\b{binder} \.«?(\w+)»? ≡", fact)):
+        given = set(re.findall(rf"\b{binder} \.«?(\w+)»? ≡", fact))
+        for name in equations:
+            for use in re.findall(rf"\b{name} [^×]*", fact):
+                given |= set(re.findall(rf"\({binder} \.«?(\w+)»?\)", use))
+        if fields.get(returned) and fields[returned] <= given:
             return True
     return False
 
 
-def faults_of(contract, fields):
+def faults_of(contract, fields, equations):
     """What the promise leaves open."""
     signature = re.split(r"^\s*(?:requires|ensures) ", contract, maxsplit=1, flags=re.M)[0]
     promise = "\n".join(body for kind, body in CLAUSE.findall(contract) if kind == "ensures")
@@ -69,7 +88,7 @@ def faults_of(contract, fields):
     if "→" in promise:
         yield "promises something only where something else holds"
         return
-    if returned and not determines(promise, returned[1], fields):
+    if returned and not determines(promise, returned[1], fields, equations):
         yield "has no equation for its answer"
     for lent in re.findall(r"(\w+): &(?:'\w+ )?mut ", signature):
         if not re.search(rf"now \({lent} \.exit\) ≡", promise):
@@ -78,7 +97,7 @@ def faults_of(contract, fields):
 
 def main():
     excused = set(EXCEPTION.findall((ROOT / "docs/EXCEPTIONS.md").read_text()))
-    fields, seen, faults, used = structs(), set(), [], set()
+    fields, equations, seen, faults, used = structs(), records(), set(), [], set()
     for source in sorted(ROOT.glob("crates/*/src/**/*.rt")):
         crate = source.relative_to(ROOT / "crates").parts[0]
         library = ROOT / "crates" / crate / "src/lib.rt"
@@ -91,7 +110,7 @@ def main():
                 continue
             if whole in ENTRIES and re.search(r"^\s*requires ", contract, re.M):
                 faults.append(f"{whole} is an entry and has a requires")
-            open_ends = list(faults_of(contract, fields))
+            open_ends = list(faults_of(contract, fields, equations))
             if open_ends and whole in excused:
                 used.add(whole)
             else:

@@ -1,5 +1,6 @@
 -- Document 01, "Verdicts": an answer is four numbers, verdict, part, place and rule; unnamed ones are 0.
 -- This is the one place that gives the paper's numbers.
+-- Declared in src/: Numbers, Answer (here).
 use Prim.Native.Nat.{ℕ}
 use mathlib.Core.Bool.{Bool}
 use lib.Dec.{eqb}

@@ -1,4 +1,5 @@
--- Rows that wait in slots: what putting one, and taking one, does to the count of each tuple, and of each tuple of a class.
+-- Rows that wait in slots: what putting one, and taking one, does to the count of each tuple, and of each tuple of a
+-- class.
 -- Assumes nothing.
 use mathlib.Core.Path.{_≡_, refl, sym, ap, _∙_}
 use mathlib.Core.Bool.{Bool, true, false, _&&_, cond}

@@ -1,5 +1,5 @@
-// The bus of tables whose groups stand in any order, settled in rounds: in each the pulls of one class of tuples are put into slots, and every push
-// of that class takes one of its tuple.
+// The bus of tables whose groups stand in any order, settled in rounds: in each the pulls of one class of tuples are
+// put into slots, and every push of that class takes one of its tuple.
 mod hash;
 mod put;
 mod slot;
@@ -20,8 +20,9 @@ ghost use Rattle.rules.specs.Sizes.{given, tables};
 ghost use Rattle.bus_tuples.specs.Ready.{Listed};
 ghost use Rattle.bus_rounds.specs.Slots.{classOf, Room};
 
-// Whether the pushes of a class of tuples take all its pulls. A slot has 24 bits, so that the slots of a round stay near the processor: 0 where
-// it is empty, a tag and k + 1 where extension row k waits, and 2^24 - 1 where a push took it.
+// Whether the pushes of a class of tuples take all its pulls. A slot has 24 bits, so that the slots of a round stay
+// near the processor: 0 where it is empty, a tag and k + 1 where extension row k waits, and 2^24 - 1 where a push took
+// it.
 fn round(program: &[u8], exec: &[u8], ext: &[u8], span: u32, rounds: u64, class: u64) -> bool
     requires { ⌜ Listed (now program) (now exec) ⌝ }
     requires { ⌜ Room (now ext) span × (0 < rounds) ⌝ }
@@ -40,7 +41,8 @@ fn round(program: &[u8], exec: &[u8], ext: &[u8], span: u32, rounds: u64, class:
     none_waits(&lo, &hi)
 }
 
-// Where it is true every tuple is pushed as often as it is pulled; where it is false nothing is known. A round has room for 6144 pulls.
+// Where it is true every tuple is pushed as often as it is pulled; where it is false nothing is known. A round has room
+// for 6144 pulls.
 pub fn pairs_up(program: &[u8], exec: &[u8], ext: &[u8]) -> bool
     requires { ⌜ Listed (now program) (now exec) ⌝ }
     ensures { λ r. ⌜ (r ≡ true → (σ : Tuple)

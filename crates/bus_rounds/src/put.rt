@@ -16,7 +16,7 @@ ghost use Rattle.rules.specs.Bus.{pulled};
 ghost use Rattle.bus_rounds.specs.Slots.{Span, Room, Sized, OneMore, Put};
 
 // How many extension rows start a group: no fewer than pull.
-pub fn starts(ext: &[u8]) -> u64 {
+pub(crate) fn starts(ext: &[u8]) -> u64 {
     let n = ext.len() / 120;
     let mut found: u64 = 0;
     let mut k = 0;
@@ -75,7 +75,7 @@ fn put_row(
     put_slot(lo, hi, span, t, k)
 }
 
-pub fn put_rows(
+pub(crate) fn put_rows(
     ext: &[u8],
     lo: &mut [u16; 6553],
     hi: &mut [u8; 6553],

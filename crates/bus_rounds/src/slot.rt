@@ -13,7 +13,7 @@ ghost use Rattle.bus_tuples.specs.Sent.{tupleOf};
 ghost use Rattle.bus_rounds.specs.Slots.{slotAt, live, waiting, Room, Tagged};
 
 // How many numbers a tag has: more than the table has rows. A short table leaves more bits to the tag.
-pub fn span_of(ext: &[u8]) -> u32
+pub(crate) fn span_of(ext: &[u8]) -> u32
     requires { ⌜ length (now ext) ≤ 125829120 ⌝ }
     ensures { λ r. ⌜ Room (now (ext .entry)) r ⌝ }
 {
@@ -42,7 +42,7 @@ fn after(s: usize, step: usize) -> usize
 }
 
 // An empty slot for tuple t; 6553 where none is found.
-pub fn empty_for(lo: &[u16; 6553], hi: &[u8; 6553], t: Sent) -> usize
+pub(crate) fn empty_for(lo: &[u16; 6553], hi: &[u8; 6553], t: Sent) -> usize
     ensures { λ r. ⌜ (r < 6553 → slotAt (now (lo .entry)) (now (hi .entry)) r ≡ 0) ⌝ }
 {
     let step = step_of(t);
@@ -58,7 +58,8 @@ pub fn empty_for(lo: &[u16; 6553], hi: &[u8; 6553], t: Sent) -> usize
     6553
 }
 
-// Whether a slot's number is that of a row with the tag that begins at low, and the row's tuple is t. A row is read only where the tag agrees.
+// Whether a slot's number is that of a row with the tag that begins at low, and the row's tuple is t. A row is read
+// only where the tag agrees.
 fn waits(ext: &[u8], x: u32, t: Sent, low: u32) -> bool
     ensures { λ r. ⌜ (r ≡ true → (span : ℕ) → Room (now (ext .entry)) span → Tagged span low → waiting (now (ext .entry)) span (tupleOf t) x ≡ true) ⌝ }
 {
@@ -73,7 +74,13 @@ fn waits(ext: &[u8], x: u32, t: Sent, low: u32) -> bool
 }
 
 // A slot where a row with tuple t waits; 6553 where none is found. None is beyond an empty slot.
-pub fn waiting_for(ext: &[u8], lo: &[u16; 6553], hi: &[u8; 6553], span: u32, t: Sent) -> usize
+pub(crate) fn waiting_for(
+    ext: &[u8],
+    lo: &[u16; 6553],
+    hi: &[u8; 6553],
+    span: u32,
+    t: Sent,
+) -> usize
     requires { ⌜ Room (now ext) span ⌝ }
     ensures { λ r. ⌜ (r < 6553 → waiting (now (ext .entry)) span (tupleOf t) (slotAt (now (lo .entry)) (now (hi .entry)) r) ≡ true) ⌝ }
 {
@@ -101,8 +108,9 @@ fn is_live(x: u32) -> bool
     (x != 0) & (x != 16777215)
 }
 
-// Whether no row waits. Every slot is looked at, whatever the ones before it hold, so that the compiler looks at many at once.
-pub fn none_waits(lo: &[u16; 6553], hi: &[u8; 6553]) -> bool
+// Whether no row waits. Every slot is looked at, whatever the ones before it hold, so that the compiler looks at many
+// at once.
+pub(crate) fn none_waits(lo: &[u16; 6553], hi: &[u8; 6553]) -> bool
     ensures { λ r. ⌜ (r ≡ true → (s : ℕ) → s < 6553 → live (slotAt (now (lo .entry)) (now (hi .entry)) s) ≡ false) ⌝ }
 {
     let mut none = true;

@@ -56,7 +56,7 @@ fn take_row(
     take_slot(ext, lo, hi, span, t)
 }
 
-pub fn take_rows(
+pub(crate) fn take_rows(
     program: &[u8],
     exec: &[u8],
     ext: &[u8],

@@ -1,4 +1,5 @@
--- Inner: marks of the tuples that a window holds: a bit for each, in 64 numbers of 64 bits. Whatever the marks are, counting is right.
+-- Inner: marks of the tuples that a window holds: a bit for each, in 64 numbers of 64 bits. Whatever the marks are,
+-- counting is right.
 use mathlib.Core.Bool.{Bool, cond}
 use mathlib.Core.List.{List}
 use Prim.Native.Nat.{ℕ, _+_, _/_, _%_, _^_}

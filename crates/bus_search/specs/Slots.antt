@@ -1,4 +1,5 @@
--- Inner: the slots of a window, two lists of numbers that hold tuples. A tuple's slot is a function of the tuple and of the slots' contents.
+-- Inner: the slots of a window, two lists of numbers that hold tuples. A tuple's slot is a function of the tuple and of
+-- the slots' contents.
 use mathlib.Core.Bool.{Bool, _&&_, _||_, cond}
 use mathlib.Core.List.{List}
 use Prim.Native.Nat.{ℕ, zero, suc, _+_, _*_, _/_, _%_}
@@ -32,7 +33,8 @@ descended upper lower u l (suc k) at step = descended upper lower u l k (stepped
 unfoldable pub placeOf : List ℕ → List ℕ → Tuple → ℕ
 placeOf upper lower σ = descended upper lower (σ .aux * 4294967296 + σ .left) (σ .right * 4294967296 + σ .out) 10 0 512
 
--- the slot that holds a tuple: slot 0, or the one that the steps lead to, if the tuple is marked; 1024 where neither does
+-- the slot that holds a tuple: slot 0, or the one that the steps lead to, if the tuple is marked; 1024 where neither
+-- does
 unfoldable pub slotOf : List ℕ → List ℕ → List ℕ → Tuple → ℕ
 slotOf upper lower marks σ =
     cond (sameTuple (tupleAt upper lower 0) σ) 0

@@ -1,6 +1,6 @@
-// Where a window of 1024 slots holds a tuple, or where it belongs. A slot is a number of `upper` and one of `lower`; slots 1 to 1023 are kept
-// sorted, and those not used are above every tuple. Nothing is proved of the order: a slot that is found holds the tuple, and the same tuple is
-// always found in the same slot, which is all that counting needs.
+// Where a window of 1024 slots holds a tuple, or where it belongs. A slot is a number of `upper` and one of `lower`;
+// slots 1 to 1023 are kept sorted, and those not used are above every tuple. Nothing is proved of the order: a slot
+// that is found holds the tuple, and the same tuple is always found in the same slot, which is all that counting needs.
 mod marks;
 
 use bus_tuples::Sent;
@@ -87,7 +87,8 @@ fn holds(uppers: &[u64; 1024], lowers: &[u64; 1024], at: usize, t: Sent) -> bool
     same(tuple_of(uppers[at], lowers[at]), t)
 }
 
-// The slot that holds a tuple; 1024 where none does. Most tuples that are not held have no mark, and are not searched for.
+// The slot that holds a tuple; 1024 where none does. Most tuples that are not held have no mark, and are not searched
+// for.
 pub fn seek(uppers: &[u64; 1024], lowers: &[u64; 1024], marks: &[u64; 64], t: Sent) -> usize
     ensures { λ r. ⌜ r ≡ slotOf (now (uppers .entry)) (now (lowers .entry)) (now (marks .entry)) (tupleOf t) ⌝ }
 {

@@ -1,4 +1,5 @@
-// Marks of the tuples that a window holds, one of 4096 bits for each, so that most tuples that it does not hold are known by it.
+// Marks of the tuples that a window holds, one of 4096 bits for each, so that most tuples that it does not hold are
+// known by it.
 use bus_tuples::Sent;
 use bus_tuples::hash;
 use std::num::wrapping_add_u64;

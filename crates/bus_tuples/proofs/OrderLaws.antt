@@ -1,5 +1,5 @@
--- Pulls in the order in which they stand: rows that are passed pull nothing, the row after a pull is past one, and so execution rows that leave the
--- pulls within the table push what is pulled before that.
+-- Pulls in the order in which they stand: rows that are passed pull nothing, the row after a pull is past one, and so
+-- execution rows that leave the pulls within the table push what is pulled before that.
 -- Assumes nothing.
 use mathlib.Core.Path.{_≡_, refl, sym, ap, _∙_}
 use mathlib.Core.Bool.{Bool, true, false, _&&_, cond}

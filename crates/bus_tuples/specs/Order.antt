@@ -1,4 +1,5 @@
 -- Inner: pulls in the order in which they stand, against what the execution rows push.
+-- Declared in src/: Instruction (form); Exec (rows).
 use mathlib.Core.Bool.{Bool, _&&_, cond}
 use mathlib.Core.Path.{_≡_}
 use mathlib.Core.List.{List, []}
@@ -47,7 +48,8 @@ afterPull ext k τ = cond (pullsJust ext τ (nextPull ext k)) (nextPull ext k + 
 abbrev pub afterRow : List ℕ → ℕ → Instruction → Exec → ℕ
 afterRow ext k i x = cond (opcode i 0 0 0) (afterPull ext k (pushed i x)) k
 
--- where the execution rows below r leave the pulls: at most the number of extension rows only where they push what is pulled, in order
+-- where the execution rows below r leave the pulls: at most the number of extension rows only where they push what is
+-- pulled, in order
 unfoldable pub pulledBy : List ℕ → List ℕ → List ℕ → ℕ → ℕ
 pulledBy program exec ext zero = 0
 pulledBy program exec ext (suc r) =

@@ -1,4 +1,5 @@
 -- Inner: what the stages before the bus leave of the tables.
+-- Declared in src/: Ext (rows).
 use mathlib.Core.Path.{_≡_}
 use mathlib.Core.Bool.{true}
 use mathlib.Core.List.{List}

@@ -1,4 +1,5 @@
 -- Inner: a tuple as code holds it, and its hash.
+-- Declared in src/: Sent (here).
 use Prim.Native.Nat.{ℕ, _+_, _*_}
 use Rattle.rules.specs.Bus.{Tuple}
 use Rattle.bus_tuples.specs.declared.Sent.{Sent}

@@ -39,7 +39,8 @@ fn pulled_data(be: u32, add: u32, mul: u32, peq: u32, len: u32) -> u32
     (data % P) as u32
 }
 
-// (2·be + 4·add + 8·mul + 16·peq + 32·len, idxA, idxB, idxR) of the extension row that starts at a byte, of which no more is read.
+// (2·be + 4·add + 8·mul + 16·peq + 32·len, idxA, idxB, idxR) of the extension row that starts at a byte, of which no
+// more is read.
 pub fn tuple_at(ext: &[u8], at: usize) -> Sent
     requires { ⌜ at + 120 ≤ length (now ext) ⌝ }
     ensures { λ r. ⌜ tupleOf r ≡ pulled (extAt (now (ext .entry)) at) ⌝ }

@@ -1,4 +1,5 @@
--- Where every push is balanced and as much is pushed as pulled in all, every pull is balanced: of no tuple more is pushed than pulled, so of none less.
+-- Where every push is balanced and as much is pushed as pulled in all, every pull is balanced: of no tuple more is
+-- pushed than pulled, so of none less.
 -- Assumes nothing.
 use mathlib.Core.Path.{_≡_, refl, sym, ap, _∙_, subst}
 use mathlib.Core.Bool.{Bool, true, false, true≢false, _||_, cond}
@@ -14,7 +15,8 @@ use Rattle.bus_tuples.proofs.Totals.{total-same, total-zero}
 use Rattle.bus_windows.specs.Senders.{pushTimes, pullTimes}
 use Rattle.bus_search.proofs.Slots.{same-self}
 
--- how often a tuple is sent by the rows below n, of which row r sends s r so often; and the rows with all that send it left out
+-- how often a tuple is sent by the rows below n, of which row r sends s r so often; and the rows with all that send it
+-- left out
 abbrev sentTo : (ℕ → Tuple) → (ℕ → ℕ) → Tuple → ℕ → ℕ
 sentTo s w σ n = total (λ r. cond (sameTuple (s r) σ) (w r) 0) n
 

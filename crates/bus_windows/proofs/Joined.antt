@@ -1,4 +1,5 @@
--- Both tables as one sequence of senders: its totals are those of the tables, and its first failure is the first push's, else the first pull's.
+-- Both tables as one sequence of senders: its totals are those of the tables, and its first failure is the first
+-- push's, else the first pull's.
 -- Assumes nothing.
 use mathlib.Core.Path.{_≡_, refl, ap, _∙_}
 use mathlib.Core.Bool.{Bool, true, false, _||_, cond}

@@ -1,4 +1,6 @@
--- Inner: the execution rows and then the extension rows as one sequence of senders, in the order in which verdict 7 tries them.
+-- Inner: the execution rows and then the extension rows as one sequence of senders, in the order in which verdict 7
+-- tries them.
+-- Declared in src/: Tally, Looked (here).
 use mathlib.Core.Path.{_≡_}
 use mathlib.Core.Bool.{Bool, _||_, cond}
 use Prim.Native.Nat.{ℕ, _+_, _-_, _≤_, _<_}
@@ -49,7 +51,8 @@ pub record Tallies (x : Tally) (s : Sending) : Type 0 where
 unfoldable pub equalAt : Given → Tables → ℕ → Bool
 equalAt g t j = zero? (sendingOf g t j .plus + sendingOf g t j .minus) || balanced g t (sendingOf g t j .tuple)
 
--- what a look at the senders from one on and below another says: the first whose tuple is unequal, or a later one with none before it
+-- what a look at the senders from one on and below another says: the first whose tuple is unequal, or a later one with
+-- none before it
 pub record GoesOn (equal : ℕ → Bool) (from to at : ℕ) : Type 0 where
   pub goes : from < at
   pub within : at ≤ to

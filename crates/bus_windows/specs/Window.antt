@@ -1,4 +1,5 @@
 -- Inner: a window, 1024 slots of tuples on the stack, each counted over both tables.
+-- Declared in src/: Standing (here).
 use mathlib.Core.Path.{_≡_}
 use mathlib.Core.Bool.{true, false, cond}
 use mathlib.Core.List.{List}

@@ -1,4 +1,5 @@
-// Which tuples a window holds: those of the senders from one on. Nothing depends on the choice but how much a window settles.
+// Which tuples a window holds: those of the senders from one on. Nothing depends on the choice but how much a window
+// settles.
 use crate::sender::sender;
 use bus_search::joined;
 use bus_search::mark;

@@ -1,4 +1,5 @@
-// The bus where pushes and pulls stand in different orders, or don't match: counted in windows, up to the first sender that is unequal.
+// The bus where pushes and pulls stand in different orders, or don't match: counted in windows, up to the first sender
+// that is unequal.
 mod fill;
 mod sender;
 mod totals;

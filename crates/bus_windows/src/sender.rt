@@ -1,4 +1,5 @@
-// The execution rows and then the extension rows as one sequence of senders, in the order in which verdict 7 tries them.
+// The execution rows and then the extension rows as one sequence of senders, in the order in which verdict 7 tries
+// them.
 use crate::Tally;
 use bus_tuples::Sent;
 use bus_tuples::pull_times;

@@ -1,5 +1,6 @@
-// A window of 1024 tuples, those of the senders from one on, is counted in one pass over both tables, and then the senders are looked at up to the
-// first whose tuple was not counted, where the next window begins. Nothing of a caller's may be written, so nothing can be sorted.
+// A window of 1024 tuples, those of the senders from one on, is counted in one pass over both tables, and then the
+// senders are looked at up to the first whose tuple was not counted, where the next window begins. Nothing of a
+// caller's may be written, so nothing can be sorted.
 use crate::Looked;
 use crate::Standing;
 use crate::fill::fill_window;

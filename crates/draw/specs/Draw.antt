@@ -1,4 +1,5 @@
 -- Document 01, "Draws, recipe, label": the generator and a draw. The constants are Knuth's MMIX line.
+-- Declared in src/: Generator, Drawn (here).
 use Prim.Native.Nat.{ℕ, _+_, _*_, _/_, _%_, _^_}
 use Rattle.draw.specs.declared.Generator.{Generator}
 use Rattle.draw.specs.declared.Drawn.{Drawn}

@@ -1,4 +1,4 @@
--- Five words: what the product's direct path takes.
+-- Inner: five words, as the product's direct path takes them.
 use Prim.Native.Nat.{ℕ}
 use mathlib.Core.List.{List}
 use Rattle.word.specs.Word.{IsWord}

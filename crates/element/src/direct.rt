@@ -6,7 +6,7 @@ ghost use Rattle.word.specs.Word.{p, IsWord, _+ₚ_, _-ₚ_, _*ₚ_};
 ghost use Rattle.word.specs.Element.{_*ₑ_, _⟨_⟩, nine};
 ghost use Rattle.element.specs.Words.{FiveWords};
 
-pub fn words(a: [u32; 5]) -> bool
+pub(crate) fn words(a: [u32; 5]) -> bool
     ensures { λ r. ⌜ (r ≡ true → FiveWords a) ⌝ }
 {
     (a[0] < 2130706433)
@@ -102,7 +102,7 @@ fn fourth(a: [u32; 5], b: [u32; 5], d7: u32) -> u32
     less(word::wide(word::reduced(s)) + times(a[4], b[0]), d7)
 }
 
-pub fn direct(a: [u32; 5], b: [u32; 5]) -> [u32; 5]
+pub(crate) fn direct(a: [u32; 5], b: [u32; 5]) -> [u32; 5]
     requires { ⌜ FiveWords a × FiveWords b ⌝ }
     ensures { λ r. ⌜ r ≡ a *ₑ b ⌝ }
 {

@@ -1,5 +1,6 @@
 -- Draft 0.6.0, 2.5.2: PRECOMPILE_DATA = 2·is_be + 4·flag_add + 8·flag_mul + 16·flag_poly_eq + 32·N.
 -- Document 01, "Well-formed instructions": exactly one operation, and N from 1 to 2^20.
+-- Declared in src/: Op (here).
 use Prim.Native.Nat.{ℕ, _+_, _*_, _/_, _^_}
 use mathlib.Core.Bool.{Bool, true, false, cond, _&&_}
 use lib.Dec.{leb, eqb}

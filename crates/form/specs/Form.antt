@@ -1,4 +1,5 @@
 -- Document 01, "Well-formed instructions", and what a well-formed one is: one of five kinds, with three operands.
+-- Declared in src/: Instruction, Mode, Operand, Kind, Decoded (here).
 use Prim.Native.Nat.{ℕ}
 use mathlib.Core.Bool.{Bool, true, false, cond, _&&_, _||_}
 use lib.Dec.{leb, eqb}

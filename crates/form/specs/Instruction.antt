@@ -1,4 +1,5 @@
 -- Document 01, "Layouts", part 1; draft 0.6.0, 3.3.2: an instruction is 12 words, in this order.
+-- Declared in src/: Instruction (here).
 use Prim.Native.Nat.{ℕ, _+_}
 use mathlib.Core.List.{List}
 use Rattle.word.specs.Bytes.{wordAt}

@@ -1,4 +1,5 @@
 -- Inner: the kind of an instruction that is known to be well-formed, by its opcode words and DATA alone.
+-- Declared in src/: Instruction, Op, Kind (here).
 use Prim.Native.Nat.{ℕ, _/_, _%_}
 use mathlib.Core.Bool.{cond}
 use lib.Dec.{ltb, eqb}

@@ -1,4 +1,5 @@
--- What a test of several numbers at once tells: it is true exactly where each of them passes. Two such tests joined tell of both runs.
+-- What a test of several numbers at once tells: it is true exactly where each of them passes. Two such tests joined
+-- tell of both runs.
 -- Assumes nothing.
 use mathlib.Core.Path.{_≡_, refl, sym}
 use mathlib.Core.Logic.{_↔_}

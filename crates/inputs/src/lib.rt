@@ -10,7 +10,8 @@ pub use walk::program_walk;
 ghost use mathlib.Core.Bool.{cond};
 ghost use mathlib.Core.Path.{_≡_};
 
-// What one walk over the program tells: the first malformed instruction, and whether there is none and all words are below p.
+// What one walk over the program tells: the first malformed instruction, and whether there is none and all words are
+// below p.
 pub struct Walked {
     pub at: usize,
     pub words: bool,

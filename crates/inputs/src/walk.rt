@@ -86,7 +86,8 @@ fn twelve_words(program: &[u8], i: usize) -> bool
     eight_words(program, 12 * i) & eight_words(program, 12 * i + 4)
 }
 
-// The first malformed instruction, their number where there is none; and, as each is read anyway, whether there is none and all words are below p.
+// The first malformed instruction, their number where there is none; and, as each is read anyway, whether there is none
+// and all words are below p.
 pub fn program_walk(program: &[u8]) -> Walked
     requires { ⌜ length (now program) % 48 ≡ 0 ⌝ }
     ensures { λ r. ⌜ (r .at ≡ firstMalformed (given (now (program .entry)) [])) × (r .words ≡ programPasses (now (program .entry))) ⌝ }

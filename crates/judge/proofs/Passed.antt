@@ -1,4 +1,5 @@
--- What the stages before the bus leave, where none refused: words below p, well-formed instructions, flags that are 0 or 1.
+-- What the stages before the bus leave, where none refused: words below p, well-formed instructions, flags that are 0
+-- or 1.
 -- Assumes nothing.
 use mathlib.Core.Path.{_≡_, subst}
 use mathlib.Core.Bool.{Bool}

@@ -1,4 +1,5 @@
 -- Inner: the judge's answer from a stage on, over bytes: 5 to 7, 3 to 7, 2 to 7.
+-- Declared in src/: Answer (answer).
 use mathlib.Core.List.{List}
 use Prim.Native.Nat.{ℕ}
 use Rattle.answer.specs.declared.Answer.{Answer}

@@ -1,5 +1,5 @@
-// 7 BUS: where the walk over the execution rows found each push's pull in the same order, as in a tabler's tables, it is enough that no pull is
-// left. Rounds settle groups in any order. What is left, as every refusal is, is counted.
+// 7 BUS: where the walk over the execution rows found each push's pull in the same order, as in a tabler's tables, it
+// is enough that no pull is left. Rounds settle groups in any order. What is left, as every refusal is, is counted.
 use answer::Answer;
 use bus_rounds::pairs_up;
 use bus_tuples::next_pull;

@@ -1,5 +1,5 @@
-// The stages after the sizes, each an early answer or the next stage. The program and each table are walked once, and what a walk found is the
-// answer when its stage comes. A start is 64 bits wide and is compared whole.
+// The stages after the sizes, each an early answer or the next stage. The program and each table are walked once, and
+// what a walk found is the answer when its stage comes. A start is 64 bits wide and is compared whole.
 use crate::bus::bus_answer;
 use answer::Answer;
 use inputs::first_word;

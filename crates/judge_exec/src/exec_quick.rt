@@ -1,5 +1,5 @@
-// The rules of an execution row by plain comparisons, with no product of a gate: they say yes on nearly every row of an accepted table.
-// Where they say no the row may still be right.
+// The rules of an execution row by plain comparisons, with no product of a gate: they say yes on nearly every row of an
+// accepted table. Where they say no the row may still be right.
 use form::Instruction;
 use judge_lookups::looks_up;
 use rows::Exec;
@@ -16,7 +16,8 @@ ghost use Rattle.judge_exec.specs.Parts.{lookupsThen, addressed, operati
 // What is no word, and so no selected value.
 const NONE: u32 = 4294967295;
 
-// An operand's selected value where the flags say which it is, it is a word, and rule 5, 6 or 7 holds: a cell is read at fp + operand.
+// An operand's selected value where the flags say which it is, it is a word, and rule 5, 6 or 7 holds: a cell is read
+// at fp + operand.
 fn picked(flag: u32, fp_flag: u32, operand: u32, addr: u32, value: u32, fp: u32) -> u32
     ensures { λ r. ⌜ (r < p → (r ≡ selectedOf flag «fp_flag» operand value fp) × (zero? (addressed flag «fp_flag» addr fp operand) ≡ true)) ⌝ }
 {

@@ -13,7 +13,8 @@ ghost use Rattle.rules.specs.Execution.{execRules};
 ghost use Rattle.rules.specs.Sizes.{given};
 ghost use Rattle.judge_spec.specs.First.{failing};
 
-// The first execution rule that fails on a row x paired with y, and 0 where all hold. Only where comparisons say no are the polynomials taken.
+// The first execution rule that fails on a row x paired with y, and 0 where all hold. Only where comparisons say no are
+// the polynomials taken.
 pub fn exec_failing(program: &[u8], memory: &[u8], x: Exec, y: Exec) -> u32
     ensures { λ r. ⌜ r ≡ failing (execRules (given (now (program .entry)) (now (memory .entry))) x y (instructionAt (now (program .entry)) (48 * x .pc))) ⌝ }
 {

@@ -1,5 +1,5 @@
-// The rules of an extension row but 6 to 9 by plain comparisons, with no product of a gate: they say yes on nearly every row of an accepted table.
-// Where they say no the row may still be right.
+// The rules of an extension row but 6 to 9 by plain comparisons, with no product of a gate: they say yes on nearly
+// every row of an accepted table. Where they say no the row may still be right.
 use judge_lookups::looks_up;
 use judge_lookups::looks_up_five;
 use rows::Ext;

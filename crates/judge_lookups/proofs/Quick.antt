@@ -1,4 +1,5 @@
--- What plain comparisons say of a rule: a gate that is 0 or two words that are equal leave 0, and a rule that holds is passed.
+-- What plain comparisons say of a rule: a gate that is 0 or two words that are equal leave 0, and a rule that holds is
+-- passed.
 -- Assumes nothing.
 use borrow.Author.Tests.{eq-eqb, eqb-true, le-ltb, lt-ltb}
 use mathlib.Core.Path.{_≡_, refl, _∙_}

@@ -1,4 +1,5 @@
--- A bus that is equal for every row's tuple is equal for every tuple: a tuple with a total that isn't 0 is some row's, and else both totals are 0.
+-- A bus that is equal for every row's tuple is equal for every tuple: a tuple with a total that isn't 0 is some row's,
+-- and else both totals are 0.
 use mathlib.Core.Path.{_≡_, refl, sym, _∙_, subst}
 use mathlib.Core.Bool.{Bool, true, false, _||_, true≢false, cond}
 use Prim.Native.Nat.{ℕ, _<_}

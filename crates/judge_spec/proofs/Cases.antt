@@ -1,4 +1,5 @@
--- A stage of the judge by its cases: what is shown of the next stage's answer and of the refusal holds of the stage's answer.
+-- A stage of the judge by its cases: what is shown of the next stage's answer and of the refusal holds of the stage's
+-- answer.
 use mathlib.Core.Path.{_≡_, refl}
 use mathlib.Core.Logic.{_↔_}
 use mathlib.Core.Bool.{Bool, true, false, cond}

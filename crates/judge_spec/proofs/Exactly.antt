@@ -1,4 +1,5 @@
--- What the judge's answer is worth: it accepts exactly the tables that satisfy the constraints, and no other answer than its own holds.
+-- What the judge's answer is worth: it accepts exactly the tables that satisfy the constraints, and no other answer
+-- than its own holds.
 use mathlib.Core.Path.{_≡_, subst}
 use mathlib.Core.Logic.{_↔_}
 use Rattle.answer.specs.declared.Answer.{Answer}

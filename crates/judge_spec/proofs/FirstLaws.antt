@@ -1,4 +1,5 @@
--- The laws of `first`, for every test: by recursion on how many numbers are left, the number found is in range and nothing before it fails.
+-- The laws of `first`, for every test: by recursion on how many numbers are left, the number found is in range and
+-- nothing before it fails.
 use mathlib.Core.Path.{_≡_, refl, sym, _∙_}
 use mathlib.Core.Logic.{_↔_}
 use mathlib.Core.Bool.{Bool, true, false, true≢false, cond}

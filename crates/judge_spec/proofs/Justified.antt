@@ -1,5 +1,6 @@
--- Every answer of the judge holds: no row, word or rule number is made up, and an acceptance is a proof that the tables satisfy the constraints.
--- Read from the last test to the first: given that the tests before passed, the answer from a test on is right.
+-- Every answer of the judge holds: no row, word or rule number is made up, and an acceptance is a proof that the tables
+-- satisfy the constraints. Read from the last test to the first: given that the tests before passed, the answer from a
+-- test on is right.
 use mathlib.Core.Path.{_≡_, refl}
 use mathlib.Core.Logic.{inl, inr}
 use mathlib.Core.Bool.{false, cond}

@@ -1,4 +1,5 @@
--- One answer alone holds of the parts, the judge's: where the tests before passed the judge's answer is the next test's, and that one refuses as said.
+-- One answer alone holds of the parts, the judge's: where the tests before passed the judge's answer is the next
+-- test's, and that one refuses as said.
 use mathlib.Core.Path.{_≡_, sym, ap, _∙_, subst}
 use mathlib.Core.Logic.{inl, inr}
 use mathlib.Core.Bool.{true≢false}

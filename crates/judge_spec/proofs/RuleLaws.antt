@@ -1,4 +1,5 @@
--- The laws of `failing`: by the list, the rule named is the first that fails, and 0 is the answer exactly where all hold.
+-- The laws of `failing`: by the list, the rule named is the first that fails, and 0 is the answer exactly where all
+-- hold.
 use mathlib.Core.Path.{_≡_, refl, ap, _∙_, subst}
 use mathlib.Core.Bool.{Bool, true, false, cond}
 use mathlib.Core.List.{List, [], _∷_, _++_}

@@ -1,4 +1,5 @@
--- What each test of the judge says, where it passes and where it fails: of words, instructions, rows with rules, rows with tuples, and the start.
+-- What each test of the judge says, where it passes and where it fails: of words, instructions, rows with rules, rows
+-- with tuples, and the start.
 use mathlib.Core.Path.{_≡_, refl}
 use mathlib.Core.Bool.{Bool, true, false, _&&_, _||_, true≢false}
 use mathlib.Core.List.{List}

@@ -1,4 +1,5 @@
--- Document 01, "Verdicts": the first failure in an order, of rows, words or instructions by number, and of rules in a list.
+-- Document 01, "Verdicts": the first failure in an order, of rows, words or instructions by number, and of rules in a
+-- list.
 use Prim.Native.Nat.{ℕ, zero, suc}
 use mathlib.Core.Bool.{Bool, cond}
 use mathlib.Core.List.{List, [], _∷_}

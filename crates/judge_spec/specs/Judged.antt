@@ -1,4 +1,5 @@
 -- Document 01, "Verdicts" 0 to 7: the first failure in document 01's order. Tests run in number order.
+-- Declared in src/: Answer (answer).
 use Prim.Native.Nat.{ℕ, _/_}
 use mathlib.Core.Bool.{Bool, _&&_, _||_, cond}
 use mathlib.Core.List.{List}

@@ -1,4 +1,6 @@
--- Document 01, "Verdicts" 0 to 7: what each answer of the judge says of the parts. Tests run in number order, so each says that those before it passed.
+-- Document 01, "Verdicts" 0 to 7: what each answer of the judge says of the parts. Tests run in number order, so each
+-- says that those before it passed.
+-- Declared in src/: Answer (answer).
 use mathlib.Core.Path.{_≡_}
 use mathlib.Core.Logic.{_⊎_}
 use mathlib.Core.Bool.{Bool, true, false}
@@ -35,7 +37,8 @@ module _ (g : Given) (t : Tables) where
   abbrev pub Pulls : ℕ → Type 0
   Pulls r = pulls (t .ext r) ≡ 0 → ⊥
 
--- the parts by number, and whether a part's length is right; there is no part but 1 to 4, and nothing to refuse in another
+-- the parts by number, and whether a part's length is right; there is no part but 1 to 4, and nothing to refuse in
+-- another
 module _ (q : Parts) where
   abbrev pub part : ℕ → List ℕ
   part n = getD ([] ∷ q .program ∷ q .memory ∷ q .exec ∷ q .ext ∷ []) n []

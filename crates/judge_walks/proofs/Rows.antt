@@ -1,4 +1,5 @@
--- A walk over rows of so many words: it is at row r, no row before has a rule that fails, and a test tells whether their words are below p.
+-- A walk over rows of so many words: it is at row r, no row before has a rule that fails, and a test tells whether
+-- their words are below p.
 -- Assumes nothing.
 use mathlib.Core.Path.{_≡_, _∙_}
 use mathlib.Core.Bool.{Bool, true, false, _&&_}

@@ -8,8 +8,8 @@ use Rattle.rules.specs.Given.{zero?}
 use Rattle.judge_spec.specs.First.{first}
 use Rattle.inputs.specs.Words.{allWords, eightWords}
 
--- for the rule that fails on each of n rows, the first row that has one, and their number where there is none; its rule, and else 0; and whether
--- there is none and all words are below p
+-- for the rule that fails on each of n rows, the first row that has one, and their number where there is none; its
+-- rule, and else 0; and whether there is none and all words are below p
 pub record Tested (failing : ℕ → ℕ) (n : ℕ) (bytes : List ℕ) (at rule : ℕ) (words : Bool) : Type 0 where
   pub at-is : at ≡ first (λ r. zero? (failing r)) 0 n
   pub rule-is : rule ≡ cond (ltb at n) (failing at) 0

@@ -1,6 +1,6 @@
-// One walk over each table: the first row with a rule that fails, and what its rows tell on the way, as they are read anyway: whether their words
-// are below p, and where the pushes leave the pulls that stand in the same order. An extension row is kept for the row before; of the next
-// execution row only pc and fp are used.
+// One walk over each table: the first row with a rule that fails, and what its rows tell on the way, as they are read
+// anyway: whether their words are below p, and where the pushes leave the pulls that stand in the same order. An
+// extension row is kept for the row before; of the next execution row only pc and fp are used.
 use bus_tuples::after_row;
 use form::instruction_inside;
 use inputs::eight_words;
@@ -18,8 +18,9 @@ ghost use Rattle.judge_spec.specs.Judged.{execFailing, extFailing};
 ghost use Rattle.bus_tuples.specs.Order.{pulledBy};
 ghost use Rattle.judge_walks.specs.Walks.{Tested, thirtyWords};
 
-// What the walk over the execution table tells: the first row that fails and its rule; whether there is none and all words are below p; and the
-// extension row up to which the pulls are just what was pushed, or else a number past the end.
+// What the walk over the execution table tells: the first row that fails and its rule; whether there is none and all
+// words are below p; and the extension row up to which the pulls are just what was pushed, or else a number past the
+// end.
 pub struct Executed {
     pub at: usize,
     pub rule: u32,

@@ -1,4 +1,5 @@
 -- Document 01, "Draws, recipe, label": a recipe's range, and its label byte by byte (ASCII).
+-- Declared in src/: Recipe (here).
 use Prim.Native.Nat.{ℕ, zero, suc, _+_, _/_, _%_, _^_, _<_}
 use mathlib.Core.Bool.{Bool, true, cond, _&&_}
 use mathlib.Core.List.{List, [], _∷_, _++_}

@@ -1,4 +1,6 @@
--- Inner: how the reader goes, what is before n at once and the rest a byte at a time. Reading.antt, the promise, knows nothing of this.
+-- Inner: how the reader goes, what is before n at once and the rest a byte at a time. Reading.antt, the promise, knows
+-- nothing of this.
+-- Declared in src/: Answer (answer); Reading, reader (here).
 use Prim.Native.Nat.{ℕ, zero, suc, _+_, _-_, _*_, _^_, _<_, _≤_, min}
 use mathlib.Core.Bool.{Bool, true, cond, _&&_, _||_}
 use mathlib.Core.List.{List, [], _∷_, _++_}

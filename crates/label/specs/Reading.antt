@@ -1,4 +1,6 @@
--- Document 01, "Verdicts", row LABEL, and "Draws, recipe, label": what reading a text owes. Nothing here says how a reader goes.
+-- Document 01, "Verdicts", row LABEL, and "Draws, recipe, label": what reading a text owes. Nothing here says how a
+-- reader goes.
+-- Declared in src/: Answer (answer); Recipe, Reading (here).
 use Prim.Native.Nat.{ℕ, suc, _≤_}
 use mathlib.Core.Bool.{cond}
 use mathlib.Core.List.{List, [], _∷_}

@@ -1,4 +1,5 @@
 -- Document 01, "Draws, recipe, label" and "Verdicts", row SIZE parts 0 and 5: what writing a label owes.
+-- Declared in src/: Answer (answer); Recipe, Written (here).
 use Prim.Native.Nat.{ℕ}
 use mathlib.Core.Bool.{cond}
 use mathlib.Core.List.{List, _++_}

@@ -1,4 +1,5 @@
-// A label's head, all before its n, at once: a byte's index is its place there, so no test waits for the byte before it.
+// A label's head, all before its n, at once: a byte's index is its place there, so no test waits for the byte before
+// it.
 use crate::digit;
 use crate::reader::Progress;
 ghost use mathlib.Core.Bool.{true};

@@ -1,4 +1,5 @@
-// The label reader: a valid head at once (head.rt), the rest byte by byte, up to the first byte that no valid label has there.
+// The label reader: a valid head at once (head.rt), the rest byte by byte, up to the first byte that no valid label has
+// there.
 use crate::Reading;
 use crate::Recipe;
 use crate::digit;
@@ -137,7 +138,8 @@ fn n_digit(s: Progress, byte: u8) -> Step
     Step::Stop
 }
 
-// One byte on. Each kind of place has its function; n's test comes first, since a valid label comes here with its n alone.
+// One byte on. Each kind of place has its function; n's test comes first, since a valid label comes here with its n
+// alone.
 fn advance(s: Progress, byte: u8) -> Step
     requires { ⌜ Fits s ⌝ }
     ensures { λ r. ⌜ r ≡ nextStep s byte ⌝ }

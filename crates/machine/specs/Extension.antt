@@ -1,5 +1,6 @@
 -- Document 01, "The machine, without flags"; draft 0.6.0, 2.5.2: what an extension instruction asks of the cells at A,
 -- B and C.
+-- Declared in src/: Op (form).
 use Prim.Native.Nat.{ℕ, zero, suc, _+_, _*_}
 use mathlib.Core.Bool.{Bool, true, false, _&&_}
 use mathlib.Core.List.{List, [], _∷_}

@@ -1,5 +1,6 @@
 -- Document 01, "The machine, without flags"; draft 0.6.0, 2.2 to 2.5: what a machine and its state are, and how an
 -- operand is read. No flag and no polynomial.
+-- Declared in src/: Form, Operand, Mode (form).
 use Prim.Native.Nat.{ℕ}
 use mathlib.Core.Bool.{Bool, true}
 use lib.Dec.{ltb}

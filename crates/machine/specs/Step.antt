@@ -1,5 +1,6 @@
 -- Document 01, "The machine, without flags" and STUCK of "Verdicts"; draft 0.6.0, 2.4: a step is legal with one next
 -- state, or stuck with the first reason in STUCK's order.
+-- Declared in src/: Form, Kind (form).
 use Prim.Native.Nat.{ℕ, _+_}
 use mathlib.Core.Bool.{Bool, true, false, _&&_, _||_}
 use lib.Dec.{ltb, eqb}

@@ -1,4 +1,5 @@
--- Document 01, "Draws, recipe, label": the maker's draws, numbered from 0. First 32 cells, then three for each instruction.
+-- Document 01, "Draws, recipe, label": the maker's draws, numbered from 0. First 32 cells, then three for each
+-- instruction.
 use Prim.Native.Nat.{ℕ, zero, suc, _+_, _*_, _/_, _%_, _^_}
 use Rattle.word.specs.Word.{p}
 use Rattle.draw.specs.Draw.{advance}

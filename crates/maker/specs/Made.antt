@@ -1,4 +1,6 @@
--- Document 01, "Draws, recipe, label": what draws make: each instruction, and every cell. fp is 0 throughout; what is unnamed is 0.
+-- Document 01, "Draws, recipe, label": what draws make: each instruction, and every cell. fp is 0 throughout; what is
+-- unnamed is 0.
+-- Declared in src/: Instruction, Kind, Op (form).
 use mathlib.Core.Bool.{Bool, cond}
 use mathlib.Core.List.{List, [], _∷_}
 use Prim.Native.Nat.{ℕ, _+_, _-_, _*_, _/_, _%_}

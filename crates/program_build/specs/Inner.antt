@@ -1,4 +1,5 @@
 -- Inner: what the programs' functions are handed.
+-- Declared in src/: Recipe (label).
 use Prim.Native.Nat.{ℕ, _+_, _*_}
 use mathlib.Core.Bool.{true}
 use mathlib.Core.Path.{_≡_}

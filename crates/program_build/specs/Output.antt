@@ -1,4 +1,6 @@
--- Document 01, "Draws, recipe, label": both programs read the label, as the whole of standard input, and write to standard output.
+-- Document 01, "Draws, recipe, label": both programs read the label, as the whole of standard input, and write to
+-- standard output.
+-- Declared in src/: Reading (label).
 use Prim.Native.Nat.{ℕ}
 use mathlib.Core.List.{List, _++_}
 use mathlib.Core.Path.{_≡_}

@@ -1,4 +1,5 @@
 -- Document 01, "Draws, recipe, label": what the programs build of a recipe, tabled at H = K = 256 from pc 0, fp 0.
+-- Declared in src/: Answer (answer); Recipe (label).
 use Prim.Native.Nat.{ℕ, _*_}
 use mathlib.Core.List.{List, _++_}
 use Rattle.answer.specs.declared.Answer.{Answer}

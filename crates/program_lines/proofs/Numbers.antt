@@ -1,4 +1,5 @@
--- A number's digits: how they are written from the last to the first, how many there are, and that they are the number's.
+-- A number's digits: how they are written from the last to the first, how many there are, and that they are the
+-- number's.
 -- Assumes nothing.
 use Prim.Native.Nat.{ℕ, zero, suc, _+_, _-_, _/_, _%_, _^_, _≤_, _<_}
 use mathlib.Core.Bool.{Bool, true, false, cond}

@@ -1,4 +1,5 @@
 -- Document 01, "Draws, recipe, label": what the replay program prints for a text.
+-- Declared in src/: Numbers, Answer (answer); Reading, Recipe (label).
 use Prim.Native.Nat.{ℕ}
 use mathlib.Core.Bool.{cond}
 use mathlib.Core.List.{List, [], _∷_, _++_}

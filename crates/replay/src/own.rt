@@ -55,7 +55,7 @@ fn own_in_space(recipe: Recipe) -> Answer
 }
 
 // The program takes m = 10 only.
-pub fn answer_to(recipe: Recipe) -> Answer
+pub(crate) fn answer_to(recipe: Recipe) -> Answer
     requires { ⌜ ranged recipe ≡ true ⌝ }
     ensures { λ r. ⌜ r ≡ replayOf recipe ⌝ }
 {

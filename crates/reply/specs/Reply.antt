@@ -1,4 +1,6 @@
--- Document 01, "Draws, recipe, label", its last paragraph: the four numbers written as 16 bytes, little-endian, and the verdict returned.
+-- Document 01, "Draws, recipe, label", its last paragraph: the four numbers written as 16 bytes, little-endian, and the
+-- verdict returned.
+-- Declared in src/: Answer (answer).
 use Prim.Native.Nat.{ℕ}
 use mathlib.Core.Bool.{cond}
 use mathlib.Core.List.{List, [], _∷_}

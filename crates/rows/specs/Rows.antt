@@ -1,4 +1,5 @@
 -- Document 01, "Layouts", parts 3 and 4; draft 0.6.0, 3.3.1 and 3.5.1: the words of a row, in order.
+-- Declared in src/: Exec, Ext (here).
 use mathlib.Core.Bool.{cond}
 use Prim.Native.Nat.{ℕ, _+_}
 use mathlib.Core.List.{List, [], _∷_, _++_}

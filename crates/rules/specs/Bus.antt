@@ -1,4 +1,6 @@
--- Draft 0.6.0, 3.5.4 and 3.6.2; document 01, "The bus": tuples pushed and pulled, and that every tuple is pushed as often as it is pulled.
+-- Draft 0.6.0, 3.5.4 and 3.6.2; document 01, "The bus": tuples pushed and pulled, and that every tuple is pushed as
+-- often as it is pulled.
+-- Declared in src/: Instruction (form); Exec, Ext (rows).
 use Prim.Native.Nat.{ℕ, zero, suc, _+_, _*_, _%_}
 use mathlib.Core.Bool.{Bool, _&&_, cond}
 use lib.Dec.{eqb}

@@ -1,5 +1,6 @@
--- Draft 0.6.0, 3.3.3: the selected values and the constraints of the execution table, numbered as document 01, "Execution rules", numbers them.
--- x is a row, y the row paired with it, and i the instruction at x's pc.
+-- Draft 0.6.0, 3.3.3: the selected values and the constraints of the execution table, numbered as document 01,
+-- "Execution rules", numbers them. x is a row, y the row paired with it, and i the instruction at x's pc.
+-- Declared in src/: Instruction (form); Exec (rows).
 use Prim.Native.Nat.{ℕ}
 use mathlib.Core.List.{List, [], _∷_}
 use lib.Dec.{ltb}

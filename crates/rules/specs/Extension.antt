@@ -1,5 +1,7 @@
--- Draft 0.6.0, 3.5.3 and 3.5.5: the lookups and constraints of the extension table. The lookups are 18 to 21 in document 01, and come first.
--- x is a row and y the row paired with it. No case is made on y's start: the polynomials are as they stand.
+-- Draft 0.6.0, 3.5.3 and 3.5.5: the lookups and constraints of the extension table. The lookups are 18 to 21 in
+-- document 01, and come first. x is a row and y the row paired with it. No case is made on y's start: the polynomials
+-- are as they stand.
+-- Declared in src/: Ext (rows).
 use Prim.Native.Nat.{ℕ}
 use mathlib.Core.List.{List, [], _∷_}
 use Rattle.word.specs.Word.{_+ₚ_, _-ₚ_, _*ₚ_}

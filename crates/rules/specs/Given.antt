@@ -1,4 +1,5 @@
 -- What the constraints speak of: numbered instructions, cells and rows. Draft 0.6.0, 3.2 and 3.6.1.
+-- Declared in src/: Instruction (form); Exec, Ext (rows).
 use Prim.Native.Nat.{ℕ, _+_}
 use mathlib.Core.Bool.{Bool, _&&_, cond}
 use mathlib.Core.List.{List}

@@ -1,4 +1,5 @@
--- The mission's second demand: when a table satisfies the constraints of draft 0.6.0. Nothing here knows of a machine, a stepper or a judge.
+-- The mission's second demand: when a table satisfies the constraints of draft 0.6.0. Nothing here knows of a machine,
+-- a stepper or a judge.
 use mathlib.Core.Path.{_≡_}
 use mathlib.Core.List.{List, [], _∷_}
 use Prim.Native.Nat.{ℕ, _/_, _<_}

@@ -1,4 +1,5 @@
--- Document 01, "Layouts"; draft 0.6.0, 2.2 and 3.1: the lengths that the four parts may have, and what their bytes are as numbered words.
+-- Document 01, "Layouts"; draft 0.6.0, 2.2 and 3.1: the lengths that the four parts may have, and what their bytes are
+-- as numbered words.
 use Prim.Native.Nat.{ℕ, zero, suc, _*_, _/_, _%_, _^_}
 use mathlib.Core.Bool.{Bool, _&&_, _||_}
 use mathlib.Core.List.{List, []}

@@ -1,5 +1,5 @@
--- Demand 3, agree: two accepted tables over one program, memory and start have the same states on every row both have, and the longer one
--- repeats the other's last state.
+-- Demand 3, agree: two accepted tables over one program, memory and start have the same states on every row both have,
+-- and the longer one repeats the other's last state.
 -- Assumes nothing.
 use mathlib.Core.Path.{_≡_, sym, _∙_, ap, ap₂, subst₂}
 use mathlib.Core.List.{List, []}

@@ -1,4 +1,5 @@
--- Demand 3, converse: each legal run that stays, of a permitted height and with one spare extension row, is written as tables that are accepted.
+-- Demand 3, converse: each legal run that stays, of a permitted height and with one spare extension row, is written as
+-- tables that are accepted.
 -- Assumes nothing.
 use mathlib.Core.Path.{_≡_, refl}
 use Prim.Native.Nat.{ℕ, _*_, _≤_}

@@ -1,4 +1,5 @@
--- A tuple that an execution row pushes is pulled by a row of the extension table, so the memory holds what an extension step asks.
+-- A tuple that an execution row pushes is pulled by a row of the extension table, so the memory holds what an extension
+-- step asks.
 -- Assumes nothing.
 use mathlib.Core.Path.{_≡_, _∙_, ap, subst₃}
 use mathlib.Core.Bool.{Bool, cond}

@@ -1,5 +1,5 @@
--- Demand 3, sound: where the constraints hold, every execution row is a legal step of the machine to the next row, row 0 is the start, and the
--- last row stays where it is.
+-- Demand 3, sound: where the constraints hold, every execution row is a legal step of the machine to the next row, row
+-- 0 is the start, and the last row stays where it is.
 -- Assumes nothing.
 use mathlib.Core.Path.{_≡_}
 use Prim.Native.Nat.{ℕ, _+_, _-_, _<_}

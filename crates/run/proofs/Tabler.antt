@@ -1,5 +1,6 @@
--- Demand 3 of the tabler's answer: it accepts exactly where program, memory and start are permitted and there is a legal
--- run of that height that stays and leaves a spare row. So where it says STUCK, ROOM or OPEN there is no such run.
+-- Demand 3 of the tabler's answer: it accepts exactly where program, memory and start are permitted and there is a
+-- legal run of that height that stays and leaves a spare row. So where it says STUCK, ROOM or OPEN there is no such
+-- run.
 -- Assumes nothing.
 use mathlib.Core.Path.{_≡_}
 use mathlib.Core.Bool.{false, _&&_}

@@ -1,5 +1,5 @@
--- Demand 3, together: a pair of height H is accepted only where there is a legal run of H steps that stays; and where that run leaves a spare row
--- in K, the tables written for it are accepted and have the states of every accepted pair.
+-- Demand 3, together: a pair of height H is accepted only where there is a legal run of H steps that stays; and where
+-- that run leaves a spare row in K, the tables written for it are accepted and have the states of every accepted pair.
 -- Assumes nothing.
 use mathlib.Core.Path.{_≡_, refl, subst}
 use mathlib.Core.List.{List}

@@ -1,5 +1,5 @@
--- A row's polynomials against the fold of document 01's machine: the selected element is a_j, and what the next row leaves is its comp,
--- or nothing where it starts a group.
+-- A row's polynomials against the fold of document 01's machine: the selected element is a_j, and what the next row
+-- leaves is its comp, or nothing where it starts a group.
 -- Assumes nothing.
 use mathlib.Core.Path.{_≡_, _∙_, ap, ap₂}
 use mathlib.Core.Bool.{Bool, true, false}

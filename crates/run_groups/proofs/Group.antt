@@ -1,5 +1,5 @@
--- A row with a flag set folds the elements from its own on, as many as its len says: by induction on len, since the next row either goes
--- on with one less or starts a group, and then nothing is left.
+-- A row with a flag set folds the elements from its own on, as many as its len says: by induction on len, since the
+-- next row either goes on with one less or starts a group, and then nothing is left.
 -- Assumes nothing.
 use mathlib.Core.Path.{_≡_, refl, sym, _∙_, ap, ap₂}
 use mathlib.Core.Logic.{_⊎_, inl, inr}

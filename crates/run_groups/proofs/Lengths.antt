@@ -1,5 +1,5 @@
--- Lemma 1 of draft 0.6.0, 3.5.5, from both sides: on row r of K rows, 1 ≤ len ≤ K - r. Backward from the last row, which is paired
--- with itself.
+-- Lemma 1 of draft 0.6.0, 3.5.5, from both sides: on row r of K rows, 1 ≤ len ≤ K - r. Backward from the last row,
+-- which is paired with itself.
 -- Assumes nothing.
 use mathlib.Core.Path.{_≡_}
 use mathlib.Core.Logic.{_⊎_, inl, inr}

@@ -1,5 +1,6 @@
--- What rules 18 to 21 and 1 to 17 say of a row x and its pair y once each polynomial's factor is known to be 0 or 1, in the words of
--- draft 0.6.0, 3.5.2. Read proves that rules which hold say this, and Written that this is enough for them to hold.
+-- What rules 18 to 21 and 1 to 17 say of a row x and its pair y once each polynomial's factor is known to be 0 or 1, in
+-- the words of draft 0.6.0, 3.5.2. Read proves that rules which hold say this, and Written that this is enough for them
+-- to hold.
 -- Assumes nothing.
 use mathlib.Core.Path.{_≡_}
 use mathlib.Core.Logic.{_⊎_}

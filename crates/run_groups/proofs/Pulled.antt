@@ -1,5 +1,5 @@
--- The tuple that an extension row pulls, read back: four bits and a length that Lemma 1 keeps small, so aux is below p and its digits
--- are those of the DATA that it equals. With two or three flags set it equals no DATA.
+-- The tuple that an extension row pulls, read back: four bits and a length that Lemma 1 keeps small, so aux is below p
+-- and its digits are those of the DATA that it equals. With two or three flags set it equals no DATA.
 -- Assumes nothing.
 use mathlib.Core.Path.{_≡_, refl, sym, _∙_}
 use mathlib.Core.Logic.{inl, inr}

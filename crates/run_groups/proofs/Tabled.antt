@@ -1,5 +1,5 @@
--- The tabler's rows meet the rules: inside a group, at the seam to whatever starts next. Each row's Meaning is shown, and
--- Written makes the rules of it.
+-- The tabler's rows meet the rules: inside a group, at the seam to whatever starts next. Each row's Meaning is shown,
+-- and Written makes the rules of it.
 -- Assumes nothing.
 use mathlib.Core.Path.{_≡_, refl, sym, _∙_, ap, ap₂}
 use mathlib.Core.Logic.{inl, inr}

@@ -1,5 +1,5 @@
--- What the rules of the execution table say of a row x and its pair y, with no flag and no polynomial left. That they say exactly this is
--- proved in Read and Written.
+-- What the rules of the execution table say of a row x and its pair y, with no flag and no polynomial left. That they
+-- say exactly this is proved in Read and Written.
 -- Assumes nothing.
 use mathlib.Core.Path.{_≡_}
 use Prim.Native.Nat.{ℕ, _<_}

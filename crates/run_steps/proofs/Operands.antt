@@ -1,5 +1,6 @@
--- An operand by its two flags, of which one at most is 1: where its address column lies, the value selected for it, that it is legal.
--- The three cases of the flags are the three modes, and each polynomial computes at them. Assumes nothing.
+-- An operand by its two flags, of which one at most is 1: where its address column lies, the value selected for it,
+-- that it is legal. The three cases of the flags are the three modes, and each polynomial computes at them. Assumes
+-- nothing.
 use mathlib.Core.Path.{_≡_, refl, sym, _∙_, ap}
 use Prim.Native.Nat.{ℕ, zero, suc, _+_, _≤_, _<_}
 use native.Mathlib.Omega.{arith}

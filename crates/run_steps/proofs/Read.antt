@@ -1,5 +1,5 @@
--- The rules that hold on a row of a well-formed instruction say what Meaning has: operand by operand, and then by kind, since one of ADD,
--- MUL, DEREF, JUMP and IS-PRECOMPILE is 1.
+-- The rules that hold on a row of a well-formed instruction say what Meaning has: operand by operand, and then by kind,
+-- since one of ADD, MUL, DEREF, JUMP and IS-PRECOMPILE is 1.
 -- Assumes nothing.
 use mathlib.Core.Path.{_≡_, sym, _∙_, ap, ap₂, subst₃}
 use Prim.Native.Nat.{ℕ, _+_, _≤_, _<_, _^_}

@@ -1,5 +1,6 @@
 -- The tabler's row of a legal step meets the rules with any row of the next state, and pushes what the machine calls.
--- Its columns lie where the operands' cells are, or at cell 0; a step that goes is legal, and Meaning is shown of the row.
+-- Its columns lie where the operands' cells are, or at cell 0; a step that goes is legal, and Meaning is shown of the
+-- row.
 -- Assumes nothing.
 use mathlib.Core.Path.{_≡_, refl}
 use mathlib.Core.Logic.{inl, inr}

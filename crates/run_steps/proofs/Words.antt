@@ -1,4 +1,5 @@
--- What one rule says of words: each is a factor times a difference. At factor 1 the two words are equal, and at factor 0 it says nothing.
+-- What one rule says of words: each is a factor times a difference. At factor 1 the two words are equal, and at factor
+-- 0 it says nothing.
 -- Assumes nothing.
 use mathlib.Core.Path.{_≡_, sym, _∙_, ap}
 use Prim.Native.Nat.{ℕ, _+_, _<_}

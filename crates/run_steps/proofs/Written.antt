@@ -1,4 +1,5 @@
--- Where a row means what Meaning has, its rules hold: each has a factor that is 0 for its kind, or a difference that is.
+-- Where a row means what Meaning has, its rules hold: each has a factor that is 0 for its kind, or a difference that
+-- is.
 -- Assumes nothing.
 use mathlib.Core.Path.{_≡_, sym, _∙_, ap, subst, subst₃}
 use mathlib.Core.Logic.{_⊎_, inl, inr}

@@ -1,6 +1,7 @@
--- What the theorems on the execution table speak of: what they ask of a program and a memory, which those that pass verdicts 1 to 3 of document 01
--- have, a row's state, and
--- what an extension row pushes (document 01, "The bus") and asks of the memory ("The machine, without flags").
+-- What the theorems on the execution table speak of: what they ask of a program and a memory, which those that pass
+-- verdicts 1 to 3 of document 01 have, a row's state, and what an extension row pushes (document 01, "The bus") and
+-- asks of the memory ("The machine, without flags").
+-- Declared in src/: Instruction, Form, Op, Kind (form); Exec (rows).
 use mathlib.Core.Path.{_≡_}
 use Prim.Native.Nat.{ℕ, _≤_, _<_, _^_}
 use mathlib.Core.Bool.{Bool}
@@ -67,7 +68,8 @@ pub record Selected (g : Given) (x : Exec) (i : Instruction) (f : Form) : Type 0
   pub b : νB i x ≡ value (machineIn g) (stateOf x) (f .b)
   pub c : νC i x ≡ value (machineIn g) (stateOf x) (f .c)
 
--- what an extension instruction asks of the memory, by its operands' values: its cells exist and hold the result. The other kinds ask nothing
+-- what an extension instruction asks of the memory, by its operands' values: its cells exist and hold the result. The
+-- other kinds ask nothing
 abbrev pub ExtensionHolds : Machine → Kind → ℕ → ℕ → ℕ → Type 0
 ExtensionHolds m Add a b c = Unit
 ExtensionHolds m Mul a b c = Unit

@@ -1,4 +1,5 @@
--- The bus of legal steps: below the end of step r's group as much is pulled as the steps up to r push, and padding pulls nothing.
+-- The bus of legal steps: below the end of step r's group as much is pulled as the steps up to r push, and padding
+-- pulls nothing.
 -- Assumes nothing.
 use mathlib.Core.Path.{_≡_, refl, sym, _∙_, ap, ap₂}
 use Prim.Native.Nat.{ℕ, zero, suc, _+_, _≤_, _<_}

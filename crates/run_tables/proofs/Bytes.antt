@@ -1,4 +1,5 @@
--- The tables' bytes, read back, are their rows: rows of one width stand one after the other, and reading a row undoes writing it.
+-- The tables' bytes, read back, are their rows: rows of one width stand one after the other, and reading a row undoes
+-- writing it.
 -- Assumes nothing.
 use mathlib.Core.Path.{_≡_}
 use mathlib.Core.List.{List, [], _++_, append-assoc, append-nil}

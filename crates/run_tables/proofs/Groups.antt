@@ -1,5 +1,5 @@
--- The extension table of legal steps: inside a group a row is followed by the group's next row, at a group's end by a row that starts one,
--- and padding by padding.
+-- The extension table of legal steps: inside a group a row is followed by the group's next row, at a group's end by a
+-- row that starts one, and padding by padding.
 -- Assumes nothing.
 use mathlib.Core.Path.{_≡_, sym, _∙_}
 use Prim.Native.Nat.{ℕ, suc, _+_, _≤_, _<_}

@@ -1,5 +1,5 @@
--- Where an extension row comes from: row j of the group of step r where k is filled r + j, and padding past the last group.
--- By induction on the steps left.
+-- Where an extension row comes from: row j of the group of step r where k is filled r + j, and padding past the last
+-- group. By induction on the steps left.
 -- Assumes nothing.
 use mathlib.Core.Path.{_≡_, refl, ap, ap₂}
 use Prim.Native.Nat.{ℕ, zero, suc, _+_, _-_, _≤_, _<_}

@@ -1,4 +1,5 @@
--- A run is the machine's own: each step has one next state. So a run that stays is the one of the states that the machine comes to.
+-- A run is the machine's own: each step has one next state. So a run that stays is the one of the states that the
+-- machine comes to.
 -- Assumes nothing.
 use mathlib.Core.Path.{_≡_, refl, sym, _∙_, ap, ap₂}
 use Prim.Native.Nat.{ℕ, zero, suc, _+_, _≤_}

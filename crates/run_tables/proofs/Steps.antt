@@ -1,4 +1,5 @@
--- What a legal step gives: by its kind, a group whose rows meet the rules and pull what the step pushes, or no row and no push.
+-- What a legal step gives: by its kind, a group whose rows meet the rules and pull what the step pushes, or no row and
+-- no push.
 -- Assumes nothing.
 use mathlib.Core.Path.{_≡_, sym, _∙_, ap₂}
 use mathlib.Core.Bool.{Bool, cond}

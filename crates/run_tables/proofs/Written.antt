@@ -1,5 +1,6 @@
--- Demand 3's converse: the tables of a legal run that stays satisfy the constraints. By induction over rows each state is made of words, so
--- each execution row meets its rules beside the next, and its step's group, if any, those of the extension table.
+-- Demand 3's converse: the tables of a legal run that stays satisfy the constraints. By induction over rows each state
+-- is made of words, so each execution row meets its rules beside the next, and its step's group, if any, those of the
+-- extension table.
 -- Assumes nothing.
 use mathlib.Core.Path.{_≡_, _∙_}
 use Prim.Native.Nat.{ℕ, zero, suc, _+_, _-_, _<_}

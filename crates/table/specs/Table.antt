@@ -1,4 +1,5 @@
 -- Document 01, "Draws, recipe, label": what the table program writes for a text.
+-- Declared in src/: Reading, Recipe (label).
 use Prim.Native.Nat.{ℕ}
 use mathlib.Core.Bool.{cond}
 use mathlib.Core.List.{List, []}

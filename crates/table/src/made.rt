@@ -47,7 +47,7 @@ fn tables(
 }
 
 // The same in buffers of its own.
-pub fn tables_in_space(recipe: Recipe, out: &mut [u8]) -> usize
+pub(crate) fn tables_in_space(recipe: Recipe, out: &mut [u8]) -> usize
     requires { ⌜ (ranged recipe ≡ true) × (recipe .m ≡ 10) × (49008 ≤ length (now out)) ⌝ }
     ensures { λ r. ⌜ Fills (tablesWritten recipe) (now (out .entry)) (now (out .exit)) r ⌝ }
 {

@@ -1,5 +1,5 @@
--- The run's loop: at row r it is in the state that r steps come to, all rows before r pass, and they are written in both
--- tables. Each turn keeps that, and each way out answers as the run does.
+-- The run's loop: at row r it is in the state that r steps come to, all rows before r pass, and they are written in
+-- both tables. Each turn keeps that, and each way out answers as the run does.
 -- Assumes nothing.
 use borrow.Author.Tests.{le-ltb, lt-ltb, lt-leb, le-leb}
 use mathlib.Core.Bool.{Bool, true, false, cond}

@@ -1,4 +1,5 @@
 -- Inner: how the tabler's stages end: the answer, and both tables at return.
+-- Declared in src/: Answer (answer).
 use mathlib.Core.List.{List}
 use mathlib.Core.Path.{_≡_}
 use Prim.Native.Nat.{ℕ, _/_}

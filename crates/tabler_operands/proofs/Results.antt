@@ -1,4 +1,5 @@
--- The left element by be, one element more in front of what those after it come to, and that each element's cells exist.
+-- The left element by be, one element more in front of what those after it come to, and that each element's cells
+-- exist.
 -- Assumes nothing.
 use borrow.Author.Tests.{leb-true}
 use mathlib.Core.Bool.{Bool, true, false}

@@ -1,4 +1,5 @@
 -- Inner: the elements of a group as the code reads them, and that their cells exist.
+-- Declared in src/: Group, Joined (here).
 use mathlib.Core.Bool.{Bool, true, false}
 use mathlib.Core.List.{List}
 use mathlib.Core.Path.{_≡_}

@@ -1,4 +1,6 @@
--- Inner: what the code reads of a step's operands: whether each is legal, its address column, the cell there, its value.
+-- Inner: what the code reads of a step's operands: whether each is legal, its address column, the cell there, its
+-- value.
+-- Declared in src/: Form, Kind, Mode, Operand (form); Looked, Operands (here).
 use mathlib.Core.Bool.{true, _&&_}
 use Prim.Native.Nat.{ℕ}
 use lib.Dec.{ltb}

@@ -1,4 +1,5 @@
 -- Inner: rows that the code puts in the place of other bytes of a table.
+-- Declared in src/: Exec, Ext (rows); Group, Operands (tabler_operands).
 use mathlib.Core.List.{List, _++_}
 use Prim.Native.Nat.{ℕ, _-_, _*_, _/_}
 use lib.ListN.{length, take, drop}

@@ -1,4 +1,5 @@
 -- Document 01, "The tabler" and "Verdicts" 1 to 4 and 9 to 11: the tabler's answer, and both tables at return.
+-- Declared in src/: Answer (answer).
 use Prim.Native.Nat.{ℕ, suc, _+_, _-_, _/_}
 use mathlib.Core.Bool.{Bool, true, false, _&&_, cond}
 use mathlib.Core.List.{List, []}

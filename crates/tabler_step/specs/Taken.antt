@@ -1,4 +1,5 @@
 -- Inner: what the code of a step hands on, and the extension table after it.
+-- Declared in src/: Kind (form); Group, Operands (tabler_operands); Moved (here).
 use mathlib.Core.Bool.{Bool, true, _&&_, cond}
 use mathlib.Core.List.{List}
 use Prim.Native.Nat.{ℕ, _+_, _*_, _/_, _≤_, _<_, _^_}

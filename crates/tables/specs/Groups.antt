@@ -1,5 +1,6 @@
 -- Document 01, "The tabler"; draft 0.6.0, 3.5.1: an extension step's group of N rows, the groups in execution order,
 -- and the padding.
+-- Declared in src/: Op, Kind (form); Ext (rows).
 use Prim.Native.Nat.{ℕ, zero, suc, _+_, _-_, _*_}
 use mathlib.Core.Bool.{Bool, true, false, cond}
 use lib.Dec.{ltb, eqb}

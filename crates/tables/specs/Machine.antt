@@ -1,4 +1,5 @@
 -- Document 01, "Layouts" and "Well-formed instructions": the machine of a program's and a memory's bytes.
+-- Declared in src/: Instruction, Decoded, Kind, Form, Operand, Mode (form).
 use Prim.Native.Nat.{ℕ, _*_, _/_}
 use mathlib.Core.List.{List}
 use lib.ListN.{length}

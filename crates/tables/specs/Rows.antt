@@ -1,4 +1,5 @@
 -- Document 01, "The tabler": the states of a run by row, and each execution row's eight words from its state.
+-- Declared in src/: Form, Operand, Mode, Kind (form); Exec (rows).
 use Prim.Native.Nat.{ℕ}
 use Rattle.form.specs.declared.Form.{Form}
 use Rattle.form.specs.declared.Operand.{Operand}

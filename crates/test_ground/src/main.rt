@@ -1,4 +1,5 @@
-// Draws, words in bytes, words modulo p and elements, on some hundred inputs. tests/ground.py computes the same lines by other means.
+// Draws, words in bytes, words modulo p and elements, on some hundred inputs. tests/ground.py computes the same lines
+// by other means.
 mod print;
 
 use draw::Generator;

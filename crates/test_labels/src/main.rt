@@ -1,4 +1,5 @@
-// Reads texts as labels and writes labels, and prints what came of each: tests/labels.py makes the input and what must come out.
+// Reads texts as labels and writes labels, and prints what came of each: tests/labels.py makes the input and what must
+// come out.
 use label::Recipe;
 use libc::STDIN_FILENO;
 use libc::STDOUT_FILENO;
@@ -55,7 +56,8 @@ fn show_bytes(bytes: &[u8]) {
     }
 }
 
-// A line of five numbers, verdict, part, place, rule, length, then all the bytes in hex. The label is written to the first `room`.
+// A line of five numbers, verdict, part, place, rule, length, then all the bytes in hex. The label is written to the
+// first `room`.
 fn show_written(recipe: Recipe, room: usize, bytes: &mut [u8]) {
     if bytes.len() < room {
         return;

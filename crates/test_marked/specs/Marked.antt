@@ -1,4 +1,5 @@
--- Document 01, "Marked numbers", first paragraph: one row for each marked case, what the definitions give beside what the document says.
+-- Document 01, "Marked numbers", first paragraph: one row for each marked case, what the definitions give beside what
+-- the document says.
 use Prim.Native.Nat.{ℕ, _-_}
 use mathlib.Core.List.{List, [], _∷_}
 use Rattle.word.specs.Word.{p, _+ₚ_, _*ₚ_}

@@ -1,1 +1,2 @@
-// No function: the marked numbers of document 01 as a table, specs/, and the claim that the definitions give them, proofs/.
+// No function: the marked numbers of document 01 as a table, specs/, and the claim that the definitions give them,
+// proofs/.

@@ -1,4 +1,5 @@
--- What the tests hand to the maker and the label writer: a recipe as three numbers.
+-- Inner: what the tests hand to the maker and the label writer: a recipe as three numbers.
+-- Declared in src/: Recipe (label).
 use Prim.Native.Nat.{ℕ}
 use Rattle.label.specs.declared.Recipe.{Recipe}
 

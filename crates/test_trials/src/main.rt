@@ -1,5 +1,5 @@
-// Judges and tables parts that commands on standard input write, and prints each answer. tests/trials.py makes the commands and computes
-// what must come out.
+// Judges and tables parts that commands on standard input write, and prints each answer. tests/trials.py makes the
+// commands and computes what must come out.
 use answer::Answer;
 use libc::STDIN_FILENO;
 use libc::STDOUT_FILENO;

@@ -1,4 +1,6 @@
--- Document 01, "Draws, recipe, label", its last paragraph: what the two exported functions return, and every byte they leave.
+-- Document 01, "Draws, recipe, label", its last paragraph: what the two exported functions return, and every byte they
+-- leave.
+-- Declared in src/: Answer (answer); Recipe, Reading (label).
 use Prim.Native.Nat.{ℕ, _/_, _%_, _^_}
 use mathlib.Core.Path.{_≡_}
 use mathlib.Core.Bool.{Bool, cond, _&&_}

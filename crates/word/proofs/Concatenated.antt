@@ -1,4 +1,5 @@
--- Parts of a buffer, one after the other: how long they are, where they join, and a byte and a word of one; and a part that is lent.
+-- Parts of a buffer, one after the other: how long they are, where they join, and a byte and a word of one; and a part
+-- that is lent.
 -- Assumes nothing.
 use mathlib.Core.Path.{_≡_, refl, sym, ap, ap₂, _∙_}
 use mathlib.Core.Logic.{⊎-elim}

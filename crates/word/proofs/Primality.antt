@@ -1,5 +1,5 @@
--- p is prime, by one computed test: no odd number up to p's root divides it. And what a prime gives: a product is a multiple of it only
--- where a factor is.
+-- p is prime, by one computed test: no odd number up to p's root divides it. And what a prime gives: a product is a
+-- multiple of it only where a factor is.
 -- Assumes nothing.
 use mathlib.Core.Path.{_≡_, sym, _∙_, ap}
 use mathlib.Core.Bool.{Bool, true, false}

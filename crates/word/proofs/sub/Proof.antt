@@ -1,4 +1,5 @@
--- `word::sub` meets its contract: a difference of words needs p at most once; else 3p keeps it above 0, and is a multiple of p.
+-- `word::sub` meets its contract: a difference of words needs p at most once; else 3p keeps it above 0, and is a
+-- multiple of p.
 -- Assumes nothing.
 use borrow.Author.Needs.{needs}
 use native.Mathlib.Omega.{arith}

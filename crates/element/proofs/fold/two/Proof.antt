@@ -1,4 +1,5 @@
--- `word::fold::two` meets its contract: two products of which a factor is below 2^31 fit 64 bits together; else by mul and add.
+-- `word::fold::two` meets its contract: two products of which a factor is below 2^31 fit 64 bits together; else by mul
+-- and add.
 -- Assumes nothing.
 use borrow.Author.Needs.{needs}
 use mathlib.Core.Path.{_≡_}

@@ -1,4 +1,5 @@
--- Each test is what its function promises, and together they are those by which an instruction is known to be well-formed.
+-- Each test is what its function promises, and together they are those by which an instruction is known to be
+-- well-formed.
 use borrow.Author.Needs.{needs}
 use Rattle.form.proofs.Forms.{form-tests}
 use Rattle.form.proofs.kinds.well_formed.Statement.{statement}

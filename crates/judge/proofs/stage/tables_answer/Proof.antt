@@ -1,4 +1,5 @@
--- Each answer is the case of the tests that led to it; e1 to e6 are the places where a test passed. The bus has what it asks.
+-- Each answer is the case of the tests that led to it; e1 to e6 are the places where a test passed. The bus has what it
+-- asks.
 use borrow.Author.Needs.{needs}
 use borrow.Author.Tests.{lt-ltb, le-ltb, not-true, not-false}
 use mathlib.Core.Path.{ap, _∙_}

@@ -1,5 +1,5 @@
--- `head::all_hex` meets its contract. The invariant: the tests so far are those of the digits passed. The measure is what is left of
--- the sixteen.
+-- `head::all_hex` meets its contract. The invariant: the tests so far are those of the digits passed. The measure is
+-- what is left of the sixteen.
 use Prim.Native.Nat.{_-_, _≤_}
 use mathlib.Core.Bool.{Bool, _&&_}
 use mathlib.Core.Path.{_≡_, sym, _∙_, ap, ap₂}

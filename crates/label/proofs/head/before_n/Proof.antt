@@ -1,5 +1,5 @@
--- `head::before_n` meets its contract: where every test holds, the parts before n are so many steps of the reading (`to-n`); else
--- nothing is read.
+-- `head::before_n` meets its contract: where every test holds, the parts before n are so many steps of the reading
+-- (`to-n`); else nothing is read.
 use Prim.Native.Nat.{_<_, _≤_}
 use mathlib.Core.Bool.{true, _&&_}
 use mathlib.Core.Path.{_≡_, sym, _∙_}

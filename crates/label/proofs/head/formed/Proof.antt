@@ -1,5 +1,5 @@
--- `head::formed` meets its contract. The invariant: the tests so far are those of the places passed. The measure is what is left of the
--- form.
+-- `head::formed` meets its contract. The invariant: the tests so far are those of the places passed. The measure is
+-- what is left of the form.
 use Prim.Native.Nat.{_-_, _≤_}
 use mathlib.Core.Bool.{Bool, _&&_}
 use mathlib.Core.Path.{_≡_, sym, _∙_, ap}

@@ -1,5 +1,5 @@
--- `head::seed_of` meets its contract. The invariant: the number so far is that of the digits passed. The measure is what is left of the
--- sixteen.
+-- `head::seed_of` meets its contract. The invariant: the number so far is that of the digits passed. The measure is
+-- what is left of the sixteen.
 use Prim.Native.Nat.{ℕ, _+_, _-_, _*_, _≤_}
 use mathlib.Core.Path.{_≡_, sym, _∙_, ap, ap₂}
 use borrow.Author.Needs.{needs}

@@ -1,5 +1,6 @@
--- `reader::read_label` meets its contract. It starts where `before_n` has come to. The invariant: what is left of the text gives the
--- whole reading, and the numbers fit. The measure is what is left of the text. That the reading keeps the promise is `reading-holds`.
+-- `reader::read_label` meets its contract. It starts where `before_n` has come to. The invariant: what is left of the
+-- text gives the whole reading, and the numbers fit. The measure is what is left of the text. That the reading keeps
+-- the promise is `reading-holds`.
 use Prim.Native.Nat.{_+_, _-_, _≤_}
 use mathlib.Core.Path.{_≡_, sym, _∙_, subst}
 use borrow.Author.Needs.{needs}

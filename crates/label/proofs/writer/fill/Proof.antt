@@ -1,5 +1,5 @@
--- `writer::fill` meets its contract. The invariant: the first i bytes are those of the label, the others as they were. The measure is
--- what is left of the label.
+-- `writer::fill` meets its contract. The invariant: the first i bytes are those of the label, the others as they were.
+-- The measure is what is left of the label.
 use Prim.Native.Nat.{_-_, _≤_}
 use mathlib.Core.List.{_++_}
 use mathlib.Core.Path.{_≡_, _∙_}

@@ -1,4 +1,5 @@
--- `writer::write_label` meets its contract: each answer has its law, and the length is the one that `label_length` gives.
+-- `writer::write_label` meets its contract: each answer has its law, and the length is the one that `label_length`
+-- gives.
 use Rattle.label.proofs.Writing.{outside, short, enough}
 use mathlib.Core.Path.{sym, _∙_}
 use borrow.Author.Needs.{needs}

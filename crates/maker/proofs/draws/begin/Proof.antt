@@ -1,4 +1,5 @@
--- The invariant: the state is the one after k draws, and the cells below k are those draws modulo p. The measure is what is left of the 32.
+-- The invariant: the state is the one after k draws, and the cells below k are those draws modulo p. The measure is
+-- what is left of the 32.
 use mathlib.Core.Path.{sym, _≡_}
 use Prim.Native.Nat.{_%_, ℕ, _-_, _≤_, _<_}
 use native.Mathlib.Omega.{arith}

@@ -1,5 +1,5 @@
--- The invariant: the state is the one after 32 + 3i draws, i instructions and 32 + 8i cells stand at the front of their buffers, and behind
--- them what stood there. The measure is the instructions left.
+-- The invariant: the state is the one after 32 + 3i draws, i instructions and 32 + 8i cells stand at the front of their
+-- buffers, and behind them what stood there. The measure is the instructions left.
 use mathlib.Core.List.{List, _++_}
 use mathlib.Core.Path.{refl, _≡_, sym, _∙_}
 use Prim.Native.Nat.{ℕ, _+_, _-_, _*_, _≤_}

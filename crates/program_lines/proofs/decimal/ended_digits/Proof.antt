@@ -1,5 +1,5 @@
--- `decimal::ended_digits` meets its contract. The invariant: the digits that are left, and then those that stand, are all. The measure is the
--- number that is left.
+-- `decimal::ended_digits` meets its contract. The invariant: the digits that are left, and then those that stand, are
+-- all. The measure is the number that is left.
 use Prim.Native.Nat.{suc, _-_, _^_, _≤_, _<_}
 use mathlib.Core.List.{_++_}
 use mathlib.Core.Path.{_≡_, refl, sym, _∙_}
