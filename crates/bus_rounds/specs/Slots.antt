@@ -1,5 +1,6 @@
--- Inner: slots in which pulls wait, of one class of tuples or of all. A slot's number is 0 where it is empty, 2^24 - 1 where a
--- push took it, and else k + 1 for extension row k, plus a multiple of `span` that is the tag of the row's tuple.
+-- Inner: slots in which pulls wait, of one class of tuples or of all. A slot's number is 0 where it is empty, 2^24 - 1
+-- where a push took it, and else k + 1 for extension row k, plus a multiple of `span` that is the tag of the row's
+-- tuple.
 use mathlib.Core.Path.{_≡_}
 use mathlib.Core.Bool.{Bool, _&&_, not, cond}
 use mathlib.Core.List.{List, []}

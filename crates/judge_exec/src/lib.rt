@@ -28,3 +28,15 @@ pub fn exec_failing(program: &[u8], memory: &[u8], x: Exec, y: Exec) -> u32
     }
     exec_computed(memory, x, y, i)
 }
+
+// The same by the polynomials alone, for the one row that is refused: a second call of them keeps them out of the loop
+// over rows, which a compiler would otherwise put them into.
+pub fn exec_rule(program: &[u8], memory: &[u8], x: Exec, y: Exec) -> u32
+    ensures { λ r. ⌜ r ≡ failing (execRules (given (now (program .entry)) (now (memory .entry))) x y (instructionAt (now (program .entry)) (48 * x .pc))) ⌝ }
+{
+    let pc = x.pc as usize;
+    if program.len() / 48 <= pc {
+        return 1;
+    }
+    exec_computed(memory, x, y, instruction_inside(program, 48 * pc))
+}

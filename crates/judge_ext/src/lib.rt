@@ -23,3 +23,11 @@ pub fn ext_failing(memory: &[u8], x: Ext, y: Ext) -> u32
     }
     ext_computed(memory, x, y)
 }
+
+// The same by the polynomials alone, for the one row that is refused: a second call of them keeps them out of the loop
+// over rows, which a compiler would otherwise put them into.
+pub fn ext_rule(memory: &[u8], x: Ext, y: Ext) -> u32
+    ensures { λ r. ⌜ r ≡ failing (extRules (given [] (now (memory .entry))) x y) ⌝ }
+{
+    ext_computed(memory, x, y)
+}

@@ -5,7 +5,9 @@ use bus_tuples::after_row;
 use form::instruction_inside;
 use inputs::eight_words;
 use judge_exec::exec_failing;
+use judge_exec::exec_rule;
 use judge_ext::ext_failing;
+use judge_ext::ext_rule;
 use rows::exec_inside;
 use rows::ext_inside;
 ghost use mathlib.Core.Path.{_≡_};
@@ -56,11 +58,10 @@ pub fn exec_walk(program: &[u8], memory: &[u8], exec: &[u8], ext: &[u8]) -> Exec
     while r < n {
         let x = exec_inside(exec, 32 * r);
         let y = exec_inside(exec, 32 * next_row(n, r));
-        let rule = exec_failing(program, memory, x, y);
-        if rule != 0 {
+        if exec_failing(program, memory, x, y) != 0 {
             return Executed {
                 at: r,
-                rule,
+                rule: exec_rule(program, memory, x, y),
                 words: false,
                 pulled,
             };
@@ -100,11 +101,10 @@ pub fn ext_walk(memory: &[u8], ext: &[u8]) -> Extended
     let mut r = 0;
     while r < n {
         let y = ext_inside(ext, 120 * next_row(n, r));
-        let rule = ext_failing(memory, x, y);
-        if rule != 0 {
+        if ext_failing(memory, x, y) != 0 {
             return Extended {
                 at: r,
-                rule,
+                rule: ext_rule(memory, x, y),
                 words: false,
             };
         }

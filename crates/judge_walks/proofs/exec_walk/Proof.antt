@@ -29,11 +29,12 @@ loop-holds c = (refl, at-first _ _ _ 8, refl)
 
 returns : tie.Need-returns Inv-loop μ-loop
 returns c =
-    let tried = c .before in
+    let tried = c .before .before in
     let loop = tried .before .before .before .before .before .loop in
+    let same = c .exec-rule .ensures ∙ sym (tried .exec-failing .ensures) in
     let rule =
     rw (tried .before .exec-inside2 .ensures, tried .before .before .next-row .ensures .0, tried .before .before .before .exec-inside .ensures) at (tried .exec-failing .ensures) in
-    (row-fails _ _ _ 8 (loop .inv .1) (tried .exec-failing .result) (omega arith) rule (c .if1 .taken), loop .inv .2)
+    (rw same (row-fails _ _ _ 8 (loop .inv .1) (tried .exec-failing .result) (omega arith) rule (c .before .if1 .taken)), loop .inv .2)
 
 instruction-inside-requires : tie.Need-instruction-inside-requires Inv-loop μ-loop
 instruction-inside-requires c κs =
@@ -77,6 +78,7 @@ exec-walk-spec =
     (λ c κs. search needs)
     (λ c κs. search needs)
     (λ c. search needs)
+    (λ c κs. search needs)
     (λ c κs. search needs)
     (λ c κs. search needs)
     returns

@@ -43,10 +43,11 @@ loop-holds c = (refl, at-first _ _ _ 30, λ h. c .ext-inside .ensures)
 
 returns : tie.Need-returns Inv-loop μ-loop
 returns c =
-    let tried = c .before in
+    let tried = c .before .before in
     let loop = tried .before .before .before .before .loop in
+    let same = c .ext-rule .ensures ∙ sym (tried .ext-failing .ensures) in
     let rule = rw (tried .before .ext-inside2 .ensures, tried .before .before .next-row .ensures .0, loop .inv .2 (omega arith)) at (tried .ext-failing .ensures) in
-    row-fails _ _ _ 30 (loop .inv .1) (tried .ext-failing .result) (omega arith) rule (c .if1 .taken)
+    rw same (row-fails _ _ _ 30 (loop .inv .1) (tried .ext-failing .result) (omega arith) rule (c .before .if1 .taken))
 
 loop-again : tie.Need-loop-again Inv-loop μ-loop
 loop-again c =
@@ -74,6 +75,7 @@ ext-walk-spec =
     loop-holds
     (λ c κs. search needs)
     (λ c. search needs)
+    (λ c κs. search needs)
     (λ c κs. search needs)
     (λ c κs. search needs)
     returns

@@ -1,0 +1,12 @@
+-- The groups that the code walks are the rules.
+use borrow.Author.Needs.{needs}
+use Rattle.rules.specs.Extension.{extRules}
+use Rattle.judge_ext.proofs.ext_rule.Statement.{statement}
+use Rattle.judge_ext.proofs.ext_rule.Tie as tie
+
+returns : tie.Need-returns
+unfolding extRules
+returns c = c .ext-computed .ensures
+
+pub ext-rule-spec : {M : Type 1} → statement M
+ext-rule-spec = tie.close (tie.spec (λ c κs. search needs) returns)
