@@ -4,7 +4,7 @@ use Rattle.bus_tuples.proofs.tuple.pushed_tuple.Statement.{statement}
 use Rattle.bus_tuples.proofs.tuple.pushed_tuple.Tie as tie
 
 returns : tie.Need-returns
-returns c = cc
+returns c = rw (c .selected3 .ensures, c .before .selected2 .ensures, c .before .before .selected .ensures)
 
 pub pushed-tuple-spec : {M : Type 1} → statement M
 pushed-tuple-spec =
