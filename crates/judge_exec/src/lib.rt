@@ -34,9 +34,9 @@ pub fn exec_failing(program: &[u8], memory: &[u8], x: Exec, y: Exec) -> u32
 pub fn exec_rule(program: &[u8], memory: &[u8], x: Exec, y: Exec) -> u32
     ensures { λ r. ⌜ r ≡ failing (execRules (given (now (program .entry)) (now (memory .entry))) x y (instructionAt (now (program .entry)) (48 * x .pc))) ⌝ }
 {
-    let pc = x.pc as usize;
-    if program.len() / 48 <= pc {
-        return 1;
+    let at = x.pc as usize;
+    if at < program.len() / 48 {
+        return exec_computed(memory, x, y, instruction_inside(program, 48 * at));
     }
-    exec_computed(memory, x, y, instruction_inside(program, 48 * pc))
+    1
 }
