@@ -5,35 +5,42 @@ mod execution;
 use exec_quick::exec_holds;
 use execution::exec_computed;
 use form::instruction_inside;
+use judge_lookups::next_row;
 use rows::Exec;
+use rows::exec_inside;
 ghost use mathlib.Core.Path.{_≡_};
-ghost use Prim.Native.Nat.{_*_};
-ghost use Rattle.form.specs.Instruction.{instructionAt};
-ghost use Rattle.rules.specs.Execution.{execRules};
-ghost use Rattle.rules.specs.Sizes.{given};
-ghost use Rattle.judge_spec.specs.First.{failing};
+ghost use mathlib.Core.List.{[]};
+ghost use Prim.Native.Nat.{_*_, _/_, _<_};
+ghost use lib.ListN.{length};
+ghost use Rattle.rows.specs.Rows.{execAt};
+ghost use Rattle.rules.specs.Given.{next};
+ghost use Rattle.rules.specs.Sizes.{given, tables};
+ghost use Rattle.judge_spec.specs.Judged.{execFailing};
 
-// The first execution rule that fails on a row x paired with y, and 0 where all hold. Only where comparisons say no are
-// the polynomials taken.
-pub fn exec_failing(program: &[u8], memory: &[u8], x: Exec, y: Exec) -> u32
-    ensures { λ r. ⌜ r ≡ failing (execRules (given (now (program .entry)) (now (memory .entry))) x y (instructionAt (now (program .entry)) (48 * x .pc))) ⌝ }
+// The first execution rule that fails on row r of a table, x, paired with y, and 0 where all hold. Only where
+// comparisons say no are the polynomials taken; they read the rows again, so that the loop over rows keeps x and y near.
+pub fn exec_failing(program: &[u8], memory: &[u8], exec: &[u8], r: usize, x: Exec, y: Exec) -> u32
+    requires { ⌜ r < length (now exec) / 32 ⌝ }
+    requires { ⌜ (x ≡ execAt (now exec) (32 * r)) × (y ≡ execAt (now exec) (32 * next (length (now exec) / 32) r)) ⌝ }
+    ensures { λ f. ⌜ f ≡ execFailing (given (now (program .entry)) (now (memory .entry))) (tables (now (exec .entry)) []) r ⌝ }
 {
     let pc = x.pc as usize;
     if program.len() / 48 <= pc {
         return 1;
     }
-    let i = instruction_inside(program, 48 * pc);
-    if exec_holds(memory, x, y, i) {
+    if exec_holds(memory, x, y, instruction_inside(program, 48 * pc)) {
         return 0;
     }
-    exec_computed(memory, x, y, i)
+    exec_rule(program, memory, exec, r)
 }
 
-// The same by the polynomials alone, for the one row that is refused: a second call of them keeps them out of the loop
-// over rows, which a compiler would otherwise put them into.
-pub fn exec_rule(program: &[u8], memory: &[u8], x: Exec, y: Exec) -> u32
-    ensures { λ r. ⌜ r ≡ failing (execRules (given (now (program .entry)) (now (memory .entry))) x y (instructionAt (now (program .entry)) (48 * x .pc))) ⌝ }
+// The same by the polynomials alone.
+pub fn exec_rule(program: &[u8], memory: &[u8], exec: &[u8], r: usize) -> u32
+    requires { ⌜ r < length (now exec) / 32 ⌝ }
+    ensures { λ f. ⌜ f ≡ execFailing (given (now (program .entry)) (now (memory .entry))) (tables (now (exec .entry)) []) r ⌝ }
 {
+    let x = exec_inside(exec, 32 * r);
+    let y = exec_inside(exec, 32 * next_row(exec.len() / 32, r));
     let at = x.pc as usize;
     if at < program.len() / 48 {
         return exec_computed(memory, x, y, instruction_inside(program, 48 * at));

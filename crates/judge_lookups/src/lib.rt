@@ -1,10 +1,11 @@
-// What the rules of both tables ask alike: a cell of the memory, and a gate times what must be 0.
+// What the rules of both tables ask alike: a cell of the memory, a gate times what must be 0, and the row paired with one.
 mod lookup;
 
 pub use lookup::looks_up;
 pub use lookup::looks_up_five;
 ghost use mathlib.Core.Path.{_≡_};
-ghost use Rattle.rules.specs.Given.{zero?};
+ghost use Prim.Native.Nat.{_<_};
+ghost use Rattle.rules.specs.Given.{zero?, next};
 ghost use Rattle.word.specs.Word.{_-ₚ_, _*ₚ_};
 
 // A gate times what must be 0 where it is open. Most gates are shut, and in a table that is accepted the two are equal:
@@ -19,4 +20,12 @@ pub fn gated(gate: u32, x: u32, y: u32) -> bool
         return true;
     }
     word::mul(gate, word::sub(x, y)) == 0
+}
+
+// The row paired with row r of n: the next one, and the last with itself.
+pub fn next_row(n: usize, r: usize) -> usize
+    requires { ⌜ r < n ⌝ }
+    ensures { λ s. ⌜ (s ≡ next n r) × (s < n) ⌝ }
+{
+    if r + 1 < n { r + 1 } else { r }
 }

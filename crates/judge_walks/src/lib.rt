@@ -8,6 +8,7 @@ use judge_exec::exec_failing;
 use judge_exec::exec_rule;
 use judge_ext::ext_failing;
 use judge_ext::ext_rule;
+use judge_lookups::next_row;
 use rows::exec_inside;
 use rows::ext_inside;
 ghost use mathlib.Core.Path.{_≡_};
@@ -37,14 +38,6 @@ pub struct Extended {
     pub words: bool,
 }
 
-// The row paired with row r of n: the next one, and the last with itself.
-fn next_row(n: usize, r: usize) -> usize
-    requires { ⌜ r < n ⌝ }
-    ensures { λ s. ⌜ (s ≡ next n r) × (s < n) ⌝ }
-{
-    if r + 1 < n { r + 1 } else { r }
-}
-
 // A table of whole rows.
 pub fn exec_walk(program: &[u8], memory: &[u8], exec: &[u8], ext: &[u8]) -> Executed
     requires { ⌜ length (now exec) % 32 ≡ 0 ⌝ }
@@ -58,10 +51,10 @@ pub fn exec_walk(program: &[u8], memory: &[u8], exec: &[u8], ext: &[u8]) -> Exec
     while r < n {
         let x = exec_inside(exec, 32 * r);
         let y = exec_inside(exec, 32 * next_row(n, r));
-        if exec_failing(program, memory, x, y) != 0 {
+        if exec_failing(program, memory, exec, r, x, y) != 0 {
             return Executed {
                 at: r,
-                rule: exec_rule(program, memory, x, y),
+                rule: exec_rule(program, memory, exec, r),
                 words: false,
                 pulled,
             };
@@ -101,10 +94,10 @@ pub fn ext_walk(memory: &[u8], ext: &[u8]) -> Extended
     let mut r = 0;
     while r < n {
         let y = ext_inside(ext, 120 * next_row(n, r));
-        if ext_failing(memory, x, y) != 0 {
+        if ext_failing(memory, ext, r, x, y) != 0 {
             return Extended {
                 at: r,
-                rule: ext_rule(memory, x, y),
+                rule: ext_rule(memory, ext, r),
                 words: false,
             };
         }

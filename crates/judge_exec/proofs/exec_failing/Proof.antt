@@ -8,19 +8,17 @@ use Rattle.judge_exec.proofs.exec_failing.Tie as tie
 
 returns : tie.Need-returns
 unfolding execRules
-returns c = rw (le-ltb _ _ (c .if1 .taken))
+returns c =
+    let rows = c .before .before .before .before .before .pre .1 in
+    rw (← rows .0, ← rows .1, le-ltb _ _ (c .if1 .taken))
 
 returns-2 : tie.Need-returns-2
 unfolding execRules
 returns-2 c =
     let read = c .before .before in
-    rw (lt-ltb _ _ (read .before .if1 .left)) (sym (rw (read .instruction-inside .ensures) at (c .before .exec-holds .ensures (c .if2 .taken))))
-
-returns-3 : tie.Need-returns-3
-unfolding execRules
-returns-3 c =
-    let read = c .before .before .before in
-    rw (lt-ltb _ _ (read .before .if1 .left)) (rw (read .instruction-inside .ensures) at (c .exec-computed .ensures))
+    let rows = read .before .before .before .before .before .before .pre .1 in
+    rw (← rows .0, ← rows .1, lt-ltb _ _ (read .before .if1 .left))
+    (sym (rw (read .instruction-inside .ensures) at (c .before .exec-holds .ensures (c .if2 .taken))))
 
 pub exec-failing-spec : {M : Type 1} → statement M
 exec-failing-spec =
@@ -33,4 +31,4 @@ exec-failing-spec =
     (λ c κs. search needs)
     returns-2
     (λ c κs. search needs)
-    returns-3)
+    (λ c. search needs))

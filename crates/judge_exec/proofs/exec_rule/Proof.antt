@@ -8,13 +8,30 @@ use Rattle.judge_exec.proofs.exec_rule.Tie as tie
 returns : tie.Need-returns
 unfolding execRules
 returns c =
-    let read = c .before in
-    rw (lt-ltb _ _ (read .before .if1 .taken)) (rw (read .instruction-inside .ensures) at (c .exec-computed .ensures))
+    let second = c .before .before .before .before in
+    let first = second .before .before in
+    let inside = rw (first .exec-inside .ensures) at (c .before .before .if1 .taken) in
+    rw (lt-ltb _ _ inside)
+    (rw (c .before .instruction-inside .ensures, second .exec-inside2 .ensures, second .before .next-row .ensures .0, first .exec-inside .ensures) at (c .exec-computed .ensures))
 
 returns-2 : tie.Need-returns-2
 unfolding execRules
-returns-2 c = rw (le-ltb _ _ (c .if1 .left))
+returns-2 c =
+    let first = c .before .before .before .before in
+    rw (le-ltb _ _ (rw (first .exec-inside .ensures) at (c .if1 .left)))
 
 pub exec-rule-spec : {M : Type 1} → statement M
 exec-rule-spec =
-    tie.close (tie.spec (λ c. search needs) (λ c. search needs) (λ c κs. search needs) (λ c κs. search needs) returns returns-2)
+    tie.close
+    (tie.spec
+    (λ c. search needs)
+    (λ c κs. search needs)
+    (λ c κs. search needs)
+    (λ c. search needs)
+    (λ c κs. search needs)
+    (λ c. search needs)
+    (λ c. search needs)
+    (λ c κs. search needs)
+    (λ c κs. search needs)
+    returns
+    returns-2)

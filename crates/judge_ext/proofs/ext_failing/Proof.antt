@@ -7,11 +7,11 @@ use Rattle.judge_ext.proofs.ext_failing.Tie as tie
 
 returns : tie.Need-returns
 unfolding extRules
-returns c = c .accumulates .ensures ∙ sym (c .before .before .others-hold .ensures (c .before .if1 .taken))
-
-returns-2 : tie.Need-returns-2
-unfolding extRules
-returns-2 c = c .ext-computed .ensures
+returns c =
+    let held = c .before .before in
+    let rows = held .before .before .before .pre .1 in
+    rw (← rows .0, ← rows .1) (c .accumulates .ensures ∙ sym (held .others-hold .ensures (c .before .if1 .taken)))
 
 pub ext-failing-spec : {M : Type 1} → statement M
-ext-failing-spec = tie.close (tie.spec (λ c κs. search needs) (λ c κs. search needs) returns (λ c κs. search needs) returns-2)
+ext-failing-spec =
+    tie.close (tie.spec (λ c κs. search needs) (λ c κs. search needs) returns (λ c κs. search needs) (λ c. search needs))

@@ -27,20 +27,23 @@ loop-holds : tie.Need-loop-holds Inv-loop μ-loop
 unfolding pulledBy
 loop-holds c = (refl, at-first _ _ _ 8, refl)
 
+exec-failing-requires : tie.Need-exec-failing-requires Inv-loop μ-loop
+exec-failing-requires c κs = (omega arith, (c .before .before .exec-inside .ensures, rw (c .before .next-row .ensures .0) at (c .exec-inside2 .ensures)))
+
 returns : tie.Need-returns Inv-loop μ-loop
 returns c =
     let tried = c .before .before in
     let loop = tried .before .before .before .before .before .loop in
     let same = c .exec-rule .ensures ∙ sym (tried .exec-failing .ensures) in
-    let rule =
-    rw (tried .before .exec-inside2 .ensures, tried .before .before .next-row .ensures .0, tried .before .before .before .exec-inside .ensures) at (tried .exec-failing .ensures) in
-    (rw same (row-fails _ _ _ 8 (loop .inv .1) (tried .exec-failing .result) (omega arith) rule (c .before .if1 .taken)), loop .inv .2)
+    (rw same (row-fails _ _ _ 8 (loop .inv .1) (tried .exec-failing .result) (omega arith) (tried .exec-failing .ensures) (c .before .if1 .taken)), loop .inv .2)
 
 instruction-inside-requires : tie.Need-instruction-inside-requires Inv-loop μ-loop
 instruction-inside-requires c κs =
     let passed = c .before .before in
     let start = passed .before .before .before .before .before .before .before .before .before .before .before in
-    omega (arith, pc-inside (start .args .program .now) (start .args .memory .now) _ _ _ (sym (passed .before .exec-failing .ensures) ∙ passed .if1 .left))
+    let row = passed .before .before .before .before .exec-inside in
+    let inside = pc-inside (start .args .program .now) (start .args .memory .now) _ _ _ (sym (passed .before .exec-failing .ensures) ∙ passed .if1 .left) in
+    omega (arith, rw (← row .ensures) at inside)
 
 add-r : tie.Need-add-r Inv-loop μ-loop
 add-r c =
@@ -58,7 +61,7 @@ loop-again c =
     let loop = tried .before .before .before .before .before .loop in
     let args = tried .before .before .before .before .before .before .before .before .before .before .args in
     let exec = args .exec .now in
-    let rule = rw (tried .before .exec-inside2 .ensures, tried .before .before .next-row .ensures .0, row .ensures) at (tried .exec-failing .ensures) in (
+    let rule = tried .exec-failing .ensures in (
       refl,
       row-passed _ _ _ 8 (loop .inv .1) (words .result) (omega (arith, inside)) (sym rule ∙ passed .if1 .left) (rw (words .ensures) (eight exec (8 * loop .r))),
       rw (c .after-row .ensures, c .before .instruction-inside .ensures, row .ensures, loop .inv .2) (sym (pulled-more (args .program .now) exec (args .ext .now) (loop .r))),
@@ -79,7 +82,7 @@ exec-walk-spec =
     (λ c κs. search needs)
     (λ c. search needs)
     (λ c κs. search needs)
-    (λ c κs. search needs)
+    exec-failing-requires
     (λ c κs. search needs)
     returns
     (λ c. search needs)

@@ -41,13 +41,16 @@ abbrev μ-loop : tie.MeasureT-loop
 loop-holds : tie.Need-loop-holds Inv-loop μ-loop
 loop-holds c = (refl, at-first _ _ _ 30, λ h. c .ext-inside .ensures)
 
+ext-failing-requires : tie.Need-ext-failing-requires Inv-loop μ-loop
+ext-failing-requires c κs =
+    (omega arith, (c .before .before .before .loop .inv .2 (omega arith), rw (c .before .next-row .ensures .0) at (c .ext-inside2 .ensures)))
+
 returns : tie.Need-returns Inv-loop μ-loop
 returns c =
     let tried = c .before .before in
     let loop = tried .before .before .before .before .loop in
     let same = c .ext-rule .ensures ∙ sym (tried .ext-failing .ensures) in
-    let rule = rw (tried .before .ext-inside2 .ensures, tried .before .before .next-row .ensures .0, loop .inv .2 (omega arith)) at (tried .ext-failing .ensures) in
-    rw same (row-fails _ _ _ 30 (loop .inv .1) (tried .ext-failing .result) (omega arith) rule (c .before .if1 .taken))
+    rw same (row-fails _ _ _ 30 (loop .inv .1) (tried .ext-failing .result) (omega arith) (tried .ext-failing .ensures) (c .before .if1 .taken))
 
 loop-again : tie.Need-loop-again Inv-loop μ-loop
 loop-again c =
@@ -56,7 +59,7 @@ loop-again c =
     let loop = tried .before .before .before .before .loop in
     let ext = tried .before .before .before .before .before .before .before .before .args .ext .now in
     let paired = rw (tried .before .before .next-row .ensures .0) at (tried .before .ext-inside2 .ensures) in
-    let rule = rw (paired, loop .inv .2 (omega arith)) at (tried .ext-failing .ensures) in (
+    let rule = tried .ext-failing .ensures in (
       refl,
       row-passed _ _ _ 30 (loop .inv .1) (words .result) (omega arith) (sym rule ∙ c .before .if1 .left) (rw (words .ensures) (thirty ext (loop .r))),
       next-row ext (length ext / 120) (loop .r) _ paired,
@@ -76,7 +79,7 @@ ext-walk-spec =
     (λ c κs. search needs)
     (λ c. search needs)
     (λ c κs. search needs)
-    (λ c κs. search needs)
+    ext-failing-requires
     (λ c κs. search needs)
     returns
     (λ c κs. search needs)

@@ -1,8 +1,8 @@
 -- Each branch is a case of the test in `next`.
 use borrow.Author.Needs.{needs}
 use borrow.Author.Tests.{lt-ltb, le-ltb}
-use Rattle.judge_walks.proofs.next_row.Statement.{statement}
-use Rattle.judge_walks.proofs.next_row.Tie as tie
+use Rattle.judge_lookups.proofs.next_row.Statement.{statement}
+use Rattle.judge_lookups.proofs.next_row.Tie as tie
 
 returns : tie.Need-returns
 returns c = (rw (lt-ltb _ _ (c .if1 .taken)), search needs)
