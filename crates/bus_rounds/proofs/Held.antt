@@ -13,7 +13,7 @@ use borrow.Author.Tests.{ne-eqb}
 use Rattle.rows.specs.Rows.{execAt, extAt}
 use Rattle.rules.specs.Bus.{Tuple, sameTuple, total, pushed, pushes, pulled, pulls, pushedTo, pulledTo, instructionOf}
 use Rattle.rules.specs.Sizes.{given, tables}
-use Rattle.form.proofs.Cases.{each}
+use Rattle.word.proofs.Tests.{each}
 use Rattle.bus_rounds.specs.Slots.{classOf, live, slotAt, waiting, heldTo, Tagged, Sized, OneMore, OneLess, Put, Taken}
 use Rattle.bus_tuples.proofs.Tuples.{same-tuple}
 use Rattle.bus_tuples.proofs.Totals.{one-more, counts-none, total-zero, total-set}

@@ -13,7 +13,7 @@ use borrow.Author.Tests.{eqb-true, ltb-true, le-ltb, lt-ltb}
 use Rattle.form.specs.Form.{wellFormed, opcode}
 use Rattle.form.specs.Instruction.{instructionAt}
 use Rattle.form.specs.declared.Instruction.{Instruction}
-use Rattle.form.proofs.Cases.{each}
+use Rattle.word.proofs.Tests.{each}
 use Rattle.rows.specs.Rows.{execAt, extAt}
 use Rattle.rows.specs.declared.Exec.{Exec}
 use Rattle.rules.specs.Bus.{Tuple, sameTuple, pushed, pushes, pulled, instructionOf, pulledTo}

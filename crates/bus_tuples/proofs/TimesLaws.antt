@@ -8,7 +8,7 @@ use native.Mathlib.Nat.{mul-le-mul-right}
 use native.Mathlib.Omega.{arith}
 use lib.Dec.{eqb, leb}
 use borrow.Author.Tests.{eqb-true, eqb-false, eq-eqb, ne-eqb, leb-true, le-leb}
-use Rattle.form.proofs.Cases.{each}
+use Rattle.word.proofs.Tests.{each}
 use Rattle.rows.specs.declared.Ext.{Ext}
 use Rattle.rules.specs.Bus.{pulls}
 use Rattle.bus_tuples.specs.Times.{pullBy, pullCount}

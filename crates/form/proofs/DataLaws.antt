@@ -8,7 +8,8 @@ use native.Mathlib.Omega.{arith}
 use lib.Dec.{leb, eqb}
 use borrow.Author.Tests.{eqb-true, eq-eqb, leb-true, le-leb}
 use Rattle.word.proofs.Tests.{by-test, each, same-test}
-use Rattle.form.specs.Data.{dataWord, Call, None, Of, callBy, readData, isCall}
+use Rattle.form.specs.Data.{dataWord, Call, None, Of, callBy, readData}
+use Rattle.form.specs.Opcodes.{isCall}
 use Rattle.form.specs.declared.Op.{Op}
 use Rattle.form.specs.declared.Op.the-variants.{Add, Mul, Peq}
 

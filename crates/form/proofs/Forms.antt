@@ -8,8 +8,9 @@ use native.Mathlib.Omega.{arith}
 use lib.Dec.{eqb}
 use borrow.Author.Tests.{eqb-true, leb-true}
 use Rattle.word.proofs.Tests.{by-test, either, each}
-use Rattle.form.specs.Data.{Call, None, Of, readData, isCall}
+use Rattle.form.specs.Data.{Call, None, Of, readData}
 use Rattle.form.specs.Form.{flag, flagsFit, opcode, plain, isAdd, isMul, isDeref, isJump, operandOf, formOf, extensionOf, decodeOf, isWell, wellFormed}
+use Rattle.form.specs.Opcodes.{isCall}
 use Rattle.form.specs.declared.Instruction.{Instruction}
 use Rattle.form.specs.declared.Kind.{Kind}
 use Rattle.form.specs.declared.Kind.the-variants.{Add, Mul, Deref, Jump, Extension}

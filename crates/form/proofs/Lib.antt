@@ -1,4 +1,3 @@
-pub mod Cases
 pub mod DataLaws
 pub mod Forms
 pub mod Opcodes

@@ -36,11 +36,7 @@ callBy is n =
     (cond (is Peq true) (Of Peq true n)
     None)))))
 
--- the call whose DATA a word is: N can only be the word's part by 32
+-- the call whose DATA a word is: all of it but 32·N is below 32, so N is d / 32
 unfoldable pub readData : ℕ → Call
 readData d =
     cond (leb 1 (d / 32) && leb (d / 32) (2 ^ 20)) (callBy (λ op be. eqb d (dataWord op be (d / 32))) (d / 32)) None
-
-abbrev pub isCall : Call → Bool
-isCall None = false
-isCall (Of op be n) = true

@@ -1,13 +1,19 @@
 -- Inner: the kind of an instruction that is known to be well-formed, by its opcode words and DATA alone.
 -- Declared in src/: Instruction, Op, Kind (here).
 use Prim.Native.Nat.{ℕ, _/_, _%_}
-use mathlib.Core.Bool.{cond}
+use mathlib.Core.Bool.{Bool, true, false, cond}
 use lib.Dec.{ltb, eqb}
+use Rattle.form.specs.Data.{Call, None, Of}
 use Rattle.form.specs.declared.Instruction.{Instruction}
 use Rattle.form.specs.declared.Op.{Op}
 use Rattle.form.specs.declared.Op.the-variants as op
 use Rattle.form.specs.declared.Kind.{Kind}
 use Rattle.form.specs.declared.Kind.the-variants.{Add, Mul, Deref, Jump, Extension}
+
+-- whether a word names a call
+abbrev pub isCall : Call → Bool
+isCall None = false
+isCall (Of op be n) = true
 
 -- 4 or 6 is an addition, 8 or 10 a multiplication, 16 or 18 a peq
 abbrev pub opBy : ℕ → Op

@@ -3,8 +3,8 @@ use crate::Kind;
 use crate::Op;
 ghost use mathlib.Core.Path.{_≡_};
 ghost use Prim.Native.Nat.{_≤_};
-ghost use Rattle.form.specs.Data.{bit, dataWord, readData, isCall};
-ghost use Rattle.form.specs.Opcodes.{opBy, extensionBy};
+ghost use Rattle.form.specs.Data.{bit, dataWord, readData};
+ghost use Rattle.form.specs.Opcodes.{isCall, opBy, extensionBy};
 
 // The largest number of elements, 2^20.
 const MOST: u32 = 1048576;

@@ -7,10 +7,7 @@ mod words;
 pub use data::data_word;
 pub use kinds::well_formed;
 pub use known::decode_known;
-pub use words::instruction_at;
 pub use words::instruction_inside;
-ghost use mathlib.Core.Path.{_≡_};
-ghost use Rattle.form.specs.Form.{decodeOf};
 
 // The 12 words, as document 01 orders them.
 pub struct Instruction {
@@ -65,14 +62,4 @@ pub struct Form {
 pub enum Decoded {
     Malformed,
     Well(Form),
-}
-
-// The form of an instruction.
-pub fn decode(i: Instruction) -> Decoded
-    ensures { λ r. ⌜ r ≡ decodeOf i ⌝ }
-{
-    if well_formed(i) {
-        return decode_known(i);
-    }
-    Decoded::Malformed
 }

@@ -9,7 +9,7 @@ use Prim.Native.Nat.{ℕ, suc, _+_, _≤_, zero-le}
 use native.Mathlib.Omega.{arith}
 use lib.Dec.{ltb, eqb}
 use borrow.Author.Tests.{ltb-true, ltb-false, eqb-true, eq-eqb}
-use Rattle.form.proofs.Cases.{each}
+use Rattle.word.proofs.Tests.{each}
 use Rattle.judge_spec.specs.First.{first}
 use Rattle.judge_spec.specs.Judged.{isWord}
 use Rattle.judge_spec.proofs.FirstLaws.{first-none}

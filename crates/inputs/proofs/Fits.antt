@@ -7,7 +7,7 @@ use mathlib.Core.Path.{_≡_, refl}
 use Prim.Native.Nat.{ℕ, _/_, _%_, _^_}
 use native.Mathlib.Omega.{arith}
 use lib.Dec.{eqb, leb}
-use Rattle.form.proofs.Cases.{each}
+use Rattle.word.proofs.Tests.{each}
 use Rattle.answer.specs.declared.Answer.the-variants.{Size}
 use Rattle.answer.specs.declared.Answer.{Answer}
 use Rattle.rules.specs.Sizes.{programFits, memoryFits, execFits, extFits}

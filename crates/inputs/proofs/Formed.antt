@@ -9,7 +9,7 @@ use lib.Dec.{eqb}
 use lib.ListN.{length}
 use Rattle.form.specs.Form.{wellFormed}
 use Rattle.form.specs.Instruction.{instructionAt}
-use Rattle.form.proofs.Cases.{each}
+use Rattle.word.proofs.Tests.{each}
 use Rattle.rules.specs.Sizes.{given}
 use Rattle.judge_spec.specs.Judged.{firstMalformed}
 use Rattle.judge_spec.proofs.FirstLaws.{first-past}

@@ -10,7 +10,7 @@ use lib.Dec.{eqb}
 use Rattle.word.specs.Word.{p, _+ₚ_, _-ₚ_, _*ₚ_}
 use Rattle.word.proofs.WordLaws.{difference-self, sum-zero}
 use Rattle.form.specs.declared.Instruction.{Instruction}
-use Rattle.form.proofs.Cases.{each, either}
+use Rattle.word.proofs.Tests.{each, either}
 use Rattle.rows.specs.declared.Exec.{Exec}
 use Rattle.rules.specs.Given.{zero?}
 use Rattle.rules.specs.Execution.{ADD, DEREF}

@@ -12,7 +12,7 @@ use Rattle.word.specs.Element.{_⟨_⟩, element, _+ₑ_, _-ₑ_, _·ₑ_}
 use Rattle.word.proofs.Lists.{_∷≡_}
 use Rattle.word.proofs.WordLaws.{difference-self}
 use Rattle.word.proofs.ElementLaws.{scale-zero}
-use Rattle.form.proofs.Cases.{each}
+use Rattle.word.proofs.Tests.{each}
 use Rattle.rows.specs.declared.Ext.{Ext}
 use Rattle.rules.specs.Given.{zero?, zeroElement?}
 use Rattle.rules.specs.Extension.{selected, compTail}

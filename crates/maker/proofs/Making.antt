@@ -16,7 +16,7 @@ use Rattle.form.specs.declared.Kind.{Kind}
 use Rattle.form.specs.declared.Kind.the-variants as kinds
 use Rattle.form.specs.declared.Op.{Op}
 use Rattle.form.specs.declared.Op.the-variants.{Add, Mul, Peq}
-use Rattle.form.proofs.Cases.{by-test}
+use Rattle.word.proofs.Tests.{by-test}
 use Rattle.machine.specs.Extension.{result}
 use Rattle.maker.specs.Made.{kindPicked, slotCells, opPicked, bePicked, countPicked}
 use Rattle.maker.specs.Inner.{eight}

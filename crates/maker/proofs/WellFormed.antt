@@ -13,7 +13,7 @@ use Rattle.word.proofs.WordLaws.{sum-word, product-word}
 use Rattle.form.specs.Form.{decodeOf, wellFormed}
 use Rattle.form.specs.declared.Instruction.{Instruction}
 use Rattle.form.specs.declared.Kind.{Kind}
-use Rattle.form.proofs.Cases.{by-test}
+use Rattle.word.proofs.Tests.{by-test}
 use Rattle.form.proofs.DataLaws.{written}
 use Rattle.maker.specs.Drawn.{Draws, drawsOf}
 use Rattle.maker.specs.Made.{opPicked, bePicked, countPicked, kindPicked, made, instructionMade, slotCells, cellOf}

@@ -1,7 +1,7 @@
 // Words in four bytes, lowest first.
 ghost use mathlib.Core.Path.{_≡_};
 ghost use Prim.Native.Nat.{_+_, _≤_, _<_};
-ghost use lib.ListN.{length, getD, drop};
+ghost use lib.ListN.{length, getD};
 ghost use Rattle.word.specs.Bytes.{wordAt, withWord};
 
 fn wide(x: u8) -> u32
@@ -68,15 +68,4 @@ pub fn put_word(s: &mut [u8], at: usize, x: u32)
     s[at + 1] = (x / 256 % 256) as u8;
     s[at + 2] = (x / 65536 % 256) as u8;
     s[at + 3] = (x / 16777216 % 256) as u8;
-}
-
-// What is left of the buffer from a byte on.
-pub fn rest(s: &[u8], at: usize) -> &[u8]
-    ensures { λ r. ⌜ now r ≡ drop at (now (s .entry)) ⌝ }
-{
-    if at < s.len() {
-        return &s[at..];
-    }
-    let end = s.len();
-    &s[end..]
 }

@@ -2,7 +2,6 @@
 mod bytes;
 
 pub use bytes::put_word;
-pub use bytes::rest;
 pub use bytes::word_at;
 pub use bytes::word_inside;
 ghost use mathlib.Core.Path.{_≡_};

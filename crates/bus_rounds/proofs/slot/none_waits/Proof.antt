@@ -6,7 +6,7 @@ use mathlib.Core.List.{[], _∷_}
 use mathlib.Core.Bool.{true, false, not}
 use borrow.Author.Count.{below-more}
 use borrow.Author.Tests.{not-true}
-use Rattle.form.proofs.Cases.{each}
+use Rattle.word.proofs.Tests.{each}
 use Rattle.bus_rounds.specs.Slots.{slotAt, live}
 use borrow.Author.Needs.{needs}
 use Rattle.bus_rounds.proofs.slot.none_waits.Statement.{statement}

@@ -4,7 +4,7 @@ use borrow.Author.Tests.{eqb-true}
 use mathlib.Core.Path.{_≡_, _∙_}
 use mathlib.Core.List.{[], _∷_}
 use lib.Dec.{eqb}
-use Rattle.form.proofs.Cases.{each}
+use Rattle.word.proofs.Tests.{each}
 use Rattle.rules.specs.Given.{zeroElement?}
 use Rattle.judge_ext.specs.ExtParts.{resultOf}
 use Rattle.judge_ext.proofs.QuickExt.{no-operation}

@@ -5,7 +5,7 @@ use mathlib.Core.Path.{sym, _∙_}
 use mathlib.Core.List.{[], _∷_}
 use lib.Dec.{eqb, ltb}
 use Rattle.word.specs.Word.{p}
-use Rattle.form.proofs.Cases.{each}
+use Rattle.word.proofs.Tests.{each}
 use Rattle.judge_ext.proofs.QuickExt.{own-words, base-word}
 use Rattle.judge_ext.proofs.accumulation.selected_element.Statement.{statement}
 use Rattle.judge_ext.proofs.accumulation.selected_element.Tie as tie

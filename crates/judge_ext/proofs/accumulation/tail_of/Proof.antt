@@ -4,7 +4,7 @@ use borrow.Author.Tests.{eqb-true}
 use mathlib.Core.Path.{sym, _∙_}
 use mathlib.Core.List.{[], _∷_}
 use lib.Dec.{eqb}
-use Rattle.form.proofs.Cases.{each}
+use Rattle.word.proofs.Tests.{each}
 use Rattle.judge_ext.proofs.QuickExt.{own-tail}
 use Rattle.judge_ext.proofs.accumulation.tail_of.Statement.{statement}
 use Rattle.judge_ext.proofs.accumulation.tail_of.Tie as tie
