@@ -18,7 +18,7 @@ ghost use Rattle.tabler_operands.specs.Looked.{at};
 ghost use Rattle.tabler_rows.specs.Placed.{groupBytes};
 ghost use Rattle.tabler_step.specs.Taken.{movedOf, takenOf, takenExt, kindBytes, extended, performedBy, stepBy, Ready};
 
-// What a step comes to: where it goes, with the extension rows filled after it.
+// What a step comes to: stuck by a rule, without room for its group, or where it goes, with so many rows filled then.
 pub enum Moved {
     Stuck { rule: u32 },
     Full,
