@@ -148,6 +148,7 @@ module _ {m : Machine} {start : State} {height room : ℕ} {exec ext : List ℕ}
       shown = rw (looked ∙ looked-same m s f, ef)
 
       bytes : kindBytes (m .cell) (f .kind) o ≡ concatenated (λ j. extBytes (stepRow m s j)) (lengthAt m s)
+      unfolding kindBytes
       bytes = rw (looked ∙ looked-same m s f, ef)
 
       wrote : {ext′ : List ℕ} → ext′ ≡ takenExt taken k (lengthOf (f .kind)) (kindBytes (m .cell) (f .kind) o) ext

@@ -9,11 +9,14 @@ use native.Mathlib.Nat.{add-zero}
 use native.Mathlib.Omega.{arith}
 use lib.Dec.{ltb, eqb}
 use lib.ListN.{length}
+use Rattle.form.specs.declared.Kind.{Kind}
 use Rattle.machine.specs.Machine.{State}
 use Rattle.machine.specs.Step.{Outcome, goes, stuck, asked, forward}
+use Rattle.tables.specs.Groups.{lengthOf}
+use Rattle.tabler_operands.specs.declared.Operands.{Operands}
 use Rattle.tabler_rows.specs.Placed.{placed}
-use Rattle.tabler_rows.proofs.Lent.{none-placed}
-use Rattle.tabler_step.specs.Taken.{movedOf, takenOf, takenExt, writes}
+use Rattle.tabler_rows.proofs.Lent.{none-placed, no-rows}
+use Rattle.tabler_step.specs.Taken.{movedOf, takenOf, takenExt, kindBytes, writes}
 use Rattle.tabler_step.specs.declared.Moved.the-variants.{Stuck, Full}
 use Rattle.tabler_step.specs.declared.Moved.{Moved}
 
@@ -40,6 +43,10 @@ with-room (stuck rule) h = refl
 untouched : (b : Bool) (ext : List ℕ) (filled : ℕ) {bytes : List ℕ} → bytes ≡ [] → ext ≡ cond b (placed ext (120 * filled) (120 * filled + 120 * 0) bytes) ext
 untouched true ext filled none = none-placed ext (120 * filled) (120 * filled + 120 * 0) (omega arith) none
 untouched false ext filled none = refl
+
+pub no-bytes : (cell : ℕ → ℕ) (kind : Kind) (o : Operands) → lengthOf kind ≡ 0 → kindBytes cell kind o ≡ []
+unfolding kindBytes
+no-bytes cell kind o none = no-rows _ none
 
 pub no-group : (o : Outcome) (filled : ℕ) (ext : List ℕ) {x : Moved} {bytes : List ℕ} → filled < length ext / 120
     → x ≡ movedOf o filled → bytes ≡ [] → Handed x ext ext filled 0 bytes o

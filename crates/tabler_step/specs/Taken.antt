@@ -40,7 +40,7 @@ takenExt o filled n bytes ext =
     cond (writes o && ltb (filled + n) (length ext / 120)) (placed ext (120 * filled) (120 * filled + 120 * n) bytes) ext
 
 -- the rows of a step's group
-abbrev pub kindBytes : (ℕ → ℕ) → Kind → Operands → List ℕ
+unfoldable pub kindBytes : (ℕ → ℕ) → Kind → Operands → List ℕ
 kindBytes cell kind o =
     concatenated (λ j. extBytes (kindRow cell kind (o .a .value) (o .b .value) (o .c .value) j)) (lengthOf kind)
 
