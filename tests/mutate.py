@@ -28,8 +28,8 @@ EDITS = [
     (
         STUCK_ROOM,
         "crates/tabler_spec/specs/Tabled.antt",
-        r"onStep \(step m s\) r\n    \(λ t\. cond \((leb \(filled \+ lengthAt m s \+ 1\) room)\) \((.*)\) \(Room r\)\)$",
-        r"cond (\1) (onStep (step m s) r (λ t. \2)) (Room r)",
+        r"\(refusedAt r \(step m \(state r\)\)\)",
+        "(cond (leb (filled m state (suc r) + 1) extHeight) (refusedAt r (step m (state r))) (Room r))",
     ),
 ]
 

@@ -18,7 +18,8 @@ ghost use Rattle.rules.specs.Sizes.{given, tables};
 ghost use Rattle.judge_spec.specs.Judged.{execFailing};
 
 // The first execution rule that fails on row r of a table, x, paired with y, and 0 where all hold. Only where
-// comparisons say no are the polynomials taken; they read the rows again, so that the loop over rows keeps x and y near.
+// comparisons say no are the polynomials taken; they read the rows again, so that the loop over rows keeps x and y
+// near.
 pub fn exec_failing(program: &[u8], memory: &[u8], exec: &[u8], r: usize, x: Exec, y: Exec) -> u32
     requires { ⌜ r < length (now exec) / 32 ⌝ }
     requires { ⌜ (x ≡ execAt (now exec) (32 * r)) × (y ≡ execAt (now exec) (32 * next (length (now exec) / 32) r)) ⌝ }

@@ -1,4 +1,5 @@
-// What the rules of both tables ask alike: a cell of the memory, a gate times what must be 0, and the row paired with one.
+// What the rules of both tables ask alike: a cell of the memory, a gate times what must be 0, and the row paired with
+// one.
 mod lookup;
 
 pub use lookup::looks_up;
