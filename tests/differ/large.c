@@ -1,5 +1,5 @@
-/* Tables of 16,383 and of 32,767 groups: in another order than the pushes, the judge's bus is settled by slots in the first and by more than one
- * round in the second, and where it does not balance more than one window is needed. */
+/* Tables of 16,383 and of 32,767 groups: in another order than the pushes, the judge's bus is settled by several rounds, and where it does
+ * not balance by several windows. */
 #include <inttypes.h>
 #include <stdio.h>
 #include <string.h>
@@ -55,7 +55,7 @@ static bool try_size(unsigned height_log)
     return good;
 }
 
-/* As many groups as fit the slots of one walk, and twice as many. */
+/* Groups for three rounds, and for twice as many. */
 bool try_large(void)
 {
     bool good = try_size(18);

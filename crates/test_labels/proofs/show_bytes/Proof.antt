@@ -1,4 +1,4 @@
--- `labels::show_bytes` is safe and ends: the index stays below the length.
+-- `test_labels::show_bytes` is safe and ends: the index stays below the length.
 use Prim.Native.Nat.{_≤_, _-_}
 use borrow.Author.Needs.{needs}
 use lib.ListN.{length}

@@ -1,4 +1,4 @@
--- `labels::show_readings` is safe and ends: a record is shown only where it lies within the input.
+-- `test_labels::show_readings` is safe and ends: a record is shown only where it lies within the input.
 use Prim.Native.Nat.{_≤_, _-_}
 use borrow.Author.Needs.{needs}
 use lib.ListN.{length}

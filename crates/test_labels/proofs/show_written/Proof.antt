@@ -1,4 +1,4 @@
--- `labels::show_written` is safe: the part that is lent is as long as asked.
+-- `test_labels::show_written` is safe: the part that is lent is as long as asked.
 use lib.ListN.{length-take}
 use native.Mathlib.Omega.{arith}
 use borrow.Author.Needs.{needs}

@@ -1,4 +1,4 @@
--- `trials::checksum` is safe and ends: the sum stays below the modulus.
+-- `test_trials::checksum` is safe and ends: the sum stays below the modulus.
 use Prim.Native.Nat.{_≤_, _<_, _-_}
 use borrow.Author.Needs.{needs}
 use lib.ListN.{length}

@@ -1,4 +1,4 @@
--- `trials::obey_all` is safe and ends: the commands are counted, and each leaves the parts as long as they were.
+-- `test_trials::obey_all` is safe and ends: the commands are counted, and each leaves the parts as long as they were.
 use Prim.Native.Nat.{_≤_, _-_}
 use mathlib.Core.Path.{_≡_}
 use borrow.Author.Needs.{needs}

@@ -1,4 +1,4 @@
--- `trials::repeat` is safe and ends: the index stays below `stop`, which lies within the part.
+-- `test_trials::repeat` is safe and ends: the index stays below `stop`, which lies within the part.
 use Prim.Native.Nat.{_≤_, _-_}
 use mathlib.Core.Path.{_≡_}
 use borrow.Author.Needs.{needs}

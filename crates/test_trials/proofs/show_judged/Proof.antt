@@ -1,4 +1,4 @@
--- `trials::show_judged` is safe: each part that is lent is as long as asked.
+-- `test_trials::show_judged` is safe: each part that is lent is as long as asked.
 use lib.ListN.{length-take}
 use native.Mathlib.Omega.{arith}
 use borrow.Author.Needs.{needs}

@@ -1,5 +1,5 @@
--- `trials::show_tabled` is safe: each part that is lent is as long as asked, and the tables come back as long as they
--- were.
+-- `test_trials::show_tabled` is safe: each part that is lent is as long as asked, and the tables come back as long as
+-- they were.
 use lib.ListN.{length-take}
 use native.Mathlib.Omega.{arith}
 use borrow.Author.Needs.{needs}
