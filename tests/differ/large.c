@@ -51,13 +51,35 @@ static bool try_size(unsigned height_log)
     /* a late group once more, in the place of another */
     memcpy(in.shuffled + (size_t)GROUP * 9000, in.shuffled + (size_t)GROUP * 12000, GROUP);
     good &= judge_both(&in, in.shuffled, (expected){"shuffled, one group twice", BUS});
+    speed_unpull(&in);
+    good &= judge_both(&in, in.shuffled, (expected){"last push unequal", BUS});
+    /* the last group in the place of the first: its pull is one too many, and the first's push is not pulled */
+    memcpy(in.shuffled, in.ext, in.ext_len);
+    memcpy(in.shuffled, in.ext + (size_t)GROUP * (in.height / 16 - 2), GROUP);
+    good &= judge_both(&in, in.shuffled, (expected){"first push unequal", BUS});
     speed_free(&in);
     return good;
 }
 
-/* Groups for three rounds, and for twice as many. */
+/* Every row pushes and few are pulled; and the same rows, all of them but one balanced by a table of the same height. */
+static bool try_dense(unsigned height_log, unsigned ext_log)
+{
+    speed_input in = speed_dense(height_log, ext_log);
+    printf("large: H 2^%u, K 2^%u, each row pushes\n", height_log, ext_log);
+    bool good = judge_both(&in, in.ext, (expected){"each row pushes", height_log == ext_log ? ACCEPTED : BUS});
+    /* the padding row pulls too, a tuple whose last cell is no push's */
+    store_word(in.ext + 120 * (in.ext_height - 1) + 4 * 1, 1);
+    store_word(in.ext + 120 * (in.ext_height - 1) + 4 * 7, (uint32_t)in.cells - 6);
+    good &= judge_both(&in, in.ext, (expected){"and a pull that no row pushes", BUS});
+    speed_free(&in);
+    return good;
+}
+
+/* Groups for three rounds, and for twice as many; and rows that all push, where the last pull alone is unequal and where pushes are. */
 bool try_large(void)
 {
     bool good = try_size(18);
-    return try_size(19) && good;
+    good &= try_size(19);
+    good &= try_dense(14, 14);
+    return try_dense(16, 14) && good;
 }

@@ -10,7 +10,7 @@
 #include <sys/mman.h>
 #include <unistd.h>
 
-enum { STACK = 64 << 10 };
+enum { STACK = 32 << 10 };
 
 typedef struct {
     void (*work)(void *);

@@ -128,7 +128,7 @@ static uint8_t *zeros(size_t bytes)
     return p;
 }
 
-speed_input speed_build(unsigned height_log, unsigned ext_log, unsigned memory_log, uint64_t seed)
+static speed_input blank(unsigned height_log, unsigned ext_log, unsigned memory_log)
 {
     speed_input in = {.height = (size_t)1 << height_log, .ext_height = (size_t)1 << ext_log, .cells = (size_t)1 << memory_log};
     in.program_len = 48 * in.height;
@@ -140,6 +140,12 @@ speed_input speed_build(unsigned height_log, unsigned ext_log, unsigned memory_l
     in.exec = zeros(in.exec_len);
     in.ext = zeros(in.ext_len);
     in.shuffled = zeros(in.ext_len);
+    return in;
+}
+
+speed_input speed_build(unsigned height_log, unsigned ext_log, unsigned memory_log, uint64_t seed)
+{
+    speed_input in = blank(height_log, ext_log, memory_log);
     builder b = {.in = &in, .state = seed, .free_cell = DRAWN};
     for (size_t k = 0; k < DRAWN; k++)
         store_word(in.memory + 4 * k, draw(&b) % P);
@@ -172,6 +178,41 @@ void speed_unpull(speed_input *in)
     memcpy(in->shuffled, in->ext, in->ext_len);
     for (size_t k = 0; k < LENGTH; k++)
         memcpy(in->shuffled + last + ROW * k, in->ext + in->ext_len - ROW, ROW);
+}
+
+enum { START, EXT_ADD, LEN = 4, IDX_A, IDX_B, IDX_R };
+
+/* A group of one row: a pull of a sum of cells that hold 0, or padding. */
+static void put_single(uint8_t *row, uint32_t is_add, uint32_t a, uint32_t b, uint32_t c)
+{
+    store_word(row + 4 * START, 1);
+    store_word(row + 4 * EXT_ADD, is_add);
+    store_word(row + 4 * LEN, 1);
+    store_word(row + 4 * IDX_A, a);
+    store_word(row + 4 * IDX_B, b);
+    store_word(row + 4 * IDX_R, c);
+}
+
+speed_input speed_dense(unsigned height_log, unsigned ext_log)
+{
+    speed_input in = blank(height_log, ext_log, 20);
+    builder b = {.in = &in};
+    for (size_t r = 0; r + 1 < in.height; r++) {
+        uint32_t w[12] = {0};
+        w[A] = (uint32_t)(r % DRAWN);
+        w[B] = (uint32_t)(r / DRAWN);
+        w[C] = (uint32_t)(r * 7919 % (in.cells - 8));
+        w[FA] = w[FB] = w[FC] = 1;
+        w[DATA] = 4 + 32;
+        put_instruction(&b, r, w);
+        store_word(in.exec + 32 * r, (uint32_t)r);
+        if (r + 1 < in.ext_height)
+            put_single(in.ext + ROW * (in.ext_height - 2 - r), 1, w[A], w[B], w[C]);
+    }
+    put_single(in.ext + ROW * (in.ext_height - 1), 0, 0, 0, 0);
+    jump(&b, in.height - 1, 1, (uint32_t)in.height - 1);
+    store_word(in.exec + 32 * (in.height - 1), (uint32_t)in.height - 1);
+    return in;
 }
 
 void speed_free(speed_input *in)

@@ -10,7 +10,7 @@
 
 #include "calls.h"
 
-enum { SIZES = 3, ROUNDS = 41, FEW = 5, BUS = 7 };
+enum { SIZES = 3, REFUSED = 4, ROUNDS = 41, FEW = 3, BUS = 7 };
 
 static double seconds(void)
 {
@@ -65,7 +65,7 @@ static void compare(const char *what, compared *c, int sizes, int rounds, call l
         printf("%-34s %-26s %10.3f %10.3f %7.2f", what, c[s].size, each, second_each, c[s].ratios[rounds / 2]);
         if (s > 0)
             printf(" %7.2f %8.2f", each / each_before, second_each / second_before);
-        if (s == SIZES - 1)
+        if (s > 1 && s == sizes - 1)
             printf(" %7.2f", each / each_first);
         printf("\n");
         each_before = each;
@@ -122,14 +122,30 @@ static void tables(void)
     }
     compare("judge, groups shuffled; sorted", c, SIZES, ROUNDS, library_judge, second_sorts);
     compare("judge, groups shuffled; counted", c, 2, 1, library_judge, second_judges);
-    for (int s = 0; s < SIZES; s++) {
-        speed_unpull(&in[s]);
-        c[s].j.ext = in[s].shuffled;
-        c[s].j.wanted = BUS;
-        c[s].j.calls = 1;
-    }
-    compare("judge, last push unequal; sorted", c, SIZES, FEW, library_judge, second_sorts);
     for (int s = 0; s < SIZES; s++)
+        speed_free(&in[s]);
+}
+
+/* Tables that the bus refuses after many windows: where the last push is unequal, and where each row pushes. */
+static void refused(int dense)
+{
+    static const unsigned logs[REFUSED][3] = {{12, 10, 14}, {15, 13, 17}, {18, 16, 20}, {20, 18, 22}};
+    static const char *const names[REFUSED] = {"H 2^12, K 2^10", "H 2^15, K 2^13", "H 2^18, K 2^16", "H 2^20, K 2^18"};
+    static speed_input in[REFUSED];
+    static compared c[REFUSED];
+    for (int s = 0; s < REFUSED; s++) {
+        in[s] = dense ? speed_dense(logs[s][0], logs[s][1]) : speed_build(logs[s][0], logs[s][1], logs[s][2], 1);
+        c[s] = (compared){.size = names[s], .units = (double)(in[s].height + in[s].ext_height)};
+        c[s].j = (job){.in = &in[s], .ext = in[s].ext, .calls = 1};
+        if (!dense) {
+            expect(library_table(&c[s].j), 0, "tabler");
+            speed_unpull(&in[s]);
+            c[s].j.ext = in[s].shuffled;
+        }
+        c[s].j.wanted = BUS;
+    }
+    compare(dense ? "judge, each row pushes; sorted" : "judge, last push unequal; sorted", c, REFUSED, FEW, library_judge, second_sorts);
+    for (int s = 0; s < REFUSED; s++)
         speed_free(&in[s]);
 }
 
@@ -178,6 +194,8 @@ int main(void)
 {
     printf("%-34s %-26s %10s %10s %7s %7s %8s %7s\n", "", "", "library ns", "second ns", "ratio", "growth", "second's", "in all");
     tables();
+    refused(0);
+    refused(1);
     makers();
     labels();
     whole();

@@ -89,7 +89,7 @@ fn holds(uppers: &[u64; 1024], lowers: &[u64; 1024], at: usize, t: Sent) -> bool
 
 // The slot that holds a tuple; 1024 where none does. Most tuples that are not held have no mark, and are not searched
 // for.
-pub fn seek(uppers: &[u64; 1024], lowers: &[u64; 1024], marks: &[u64; 64], t: Sent) -> usize
+pub fn seek(uppers: &[u64; 1024], lowers: &[u64; 1024], marks: &[u64; 256], t: Sent) -> usize
     ensures { λ r. ⌜ r ≡ slotOf (now (uppers .entry)) (now (lowers .entry)) (now (marks .entry)) (tupleOf t) ⌝ }
 {
     if holds(uppers, lowers, 0, t) {

@@ -43,7 +43,7 @@ fn add_sender(
     ext: &[u8],
     uppers: &mut [u64; 1024],
     lowers: &mut [u64; 1024],
-    marks: &mut [u64; 64],
+    marks: &mut [u64; 256],
     used: usize,
     j: usize,
 ) -> usize
@@ -70,7 +70,7 @@ fn add_senders(
     ext: &[u8],
     uppers: &mut [u64; 1024],
     lowers: &mut [u64; 1024],
-    marks: &mut [u64; 64],
+    marks: &mut [u64; 256],
     from: usize,
     to: usize,
 )
@@ -96,7 +96,7 @@ pub(crate) fn fill_window(
     ext: &[u8],
     uppers: &mut [u64; 1024],
     lowers: &mut [u64; 1024],
-    marks: &mut [u64; 64],
+    marks: &mut [u64; 256],
     from: usize,
     to: usize,
 )

@@ -22,7 +22,7 @@ fn count_one(
     ext: &[u8],
     uppers: &[u64; 1024],
     lowers: &[u64; 1024],
-    marks: &[u64; 64],
+    marks: &[u64; 256],
     net: &mut [u32; 1024],
     j: usize,
 )
@@ -50,7 +50,7 @@ fn count(
     ext: &[u8],
     uppers: &[u64; 1024],
     lowers: &[u64; 1024],
-    marks: &[u64; 64],
+    marks: &[u64; 256],
     net: &mut [u32; 1024],
 )
     requires { ⌜ Ready (now program) (now exec) (now ext) ⌝ }
@@ -73,7 +73,7 @@ fn stands(
     ext: &[u8],
     uppers: &[u64; 1024],
     lowers: &[u64; 1024],
-    marks: &[u64; 64],
+    marks: &[u64; 256],
     net: &[u32; 1024],
     j: usize,
 ) -> Standing
@@ -106,7 +106,7 @@ fn look(
     ext: &[u8],
     uppers: &[u64; 1024],
     lowers: &[u64; 1024],
-    marks: &[u64; 64],
+    marks: &[u64; 256],
     net: &[u32; 1024],
     from: usize,
     to: usize,
@@ -137,7 +137,7 @@ fn count_and_look(
     ext: &[u8],
     uppers: &[u64; 1024],
     lowers: &[u64; 1024],
-    marks: &[u64; 64],
+    marks: &[u64; 256],
     from: usize,
     to: usize,
 ) -> Looked
@@ -158,7 +158,7 @@ fn window(program: &[u8], exec: &[u8], ext: &[u8], from: usize, to: usize) -> Lo
 {
     let mut uppers = [18446744073709551615u64; 1024];
     let mut lowers = [18446744073709551615u64; 1024];
-    let mut marks = [0u64; 64];
+    let mut marks = [0u64; 256];
     fill_window(
         program,
         exec,

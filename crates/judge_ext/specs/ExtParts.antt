@@ -2,14 +2,23 @@
 -- in what comes after it.
 -- Declared in src/: Ext (rows).
 use mathlib.Core.Bool.{cond}
-use Prim.Native.Nat.{ℕ}
+use Prim.Native.Nat.{ℕ, _*_, _/_}
 use mathlib.Core.List.{List}
+use lib.ListN.{length}
 use Rattle.word.specs.Word.{_+ₚ_, _-ₚ_, _*ₚ_}
 use Rattle.word.specs.Element.{element, _+ₑ_, _-ₑ_, _·ₑ_, _*ₑ_, peqₑ}
 use Rattle.rows.specs.declared.Ext.{Ext}
-use Rattle.rules.specs.Given.{zero?, zeroElement?}
+use Rattle.rows.specs.Rows.{extAt}
+use Rattle.rules.specs.Given.{zero?, zeroElement?, next}
 use Rattle.rules.specs.Extension.{selected, compTail}
 use Rattle.judge_lookups.specs.Memory.{cellIs, cellsAre}
+
+-- row r of a table, and the row paired with it
+abbrev pub rowOf : List ℕ → ℕ → Ext
+rowOf ext r = extAt ext (120 * r)
+
+abbrev pub pairedRow : List ℕ → ℕ → Ext
+pairedRow ext r = extAt ext (120 * next (length ext / 120) r)
 
 -- rules 18 to 21
 abbrev pub extLookupsThen : List ℕ → Ext → ℕ → ℕ

@@ -6,16 +6,20 @@ use element::scale;
 use element::sum;
 use inputs::first_of;
 use judge_lookups::gated;
+use judge_lookups::next_row;
 use rows::Ext;
+use rows::ext_inside;
 use word::sub;
 ghost use mathlib.Core.Path.{_≡_};
 ghost use mathlib.Core.Bool.{_&&_};
+ghost use Prim.Native.Nat.{_/_, _<_};
 ghost use lib.Dec.{ltb};
+ghost use lib.ListN.{length};
 ghost use Rattle.word.specs.Word.{p};
 ghost use Rattle.word.specs.Element.{_⟨_⟩, _-ₑ_, _·ₑ_};
 ghost use Rattle.rules.specs.Given.{zeroElement?};
 ghost use Rattle.rules.specs.Extension.{selected, compTail};
-ghost use Rattle.judge_ext.specs.ExtParts.{sumOf, productOf, peqOf, operatesThen, accumulatesThen};
+ghost use Rattle.judge_ext.specs.ExtParts.{sumOf, productOf, peqOf, operatesThen, accumulatesThen, rowOf, pairedRow};
 
 // A flag times the difference of two elements is 0 in every coordinate.
 fn gated_each(flag: u32, a: [u32; 5], b: [u32; 5]) -> bool
@@ -127,15 +131,20 @@ fn operates(x: Ext, y: Ext, rest: u32) -> u32
     first_of(6, sums, first_of(7, products, first_of(8, peqs, rest)))
 }
 
-// A row with no operation, as padding is, has only rule 9.
-pub(crate) fn accumulates(x: Ext, y: Ext, rest: u32) -> u32
-    ensures { λ r. ⌜ r ≡ accumulatesThen x y (selected x) (compTail y) rest ⌝ }
+// Rules 6 to 9 of row r, which is read here, and by its caller: a row that is handed on is copied, and rows stand in
+// cache. One with no operation, as padding is, has only rule 9.
+pub(crate) fn accumulates(ext: &[u8], r: usize, rest: u32) -> u32
+    requires { ⌜ r < length (now ext) / 120 ⌝ }
+    ensures { λ f. ⌜ f ≡ accumulatesThen (rowOf (now (ext .entry)) r) (pairedRow (now (ext .entry)) r)
+        (selected (rowOf (now (ext .entry)) r)) (compTail (pairedRow (now (ext .entry)) r)) rest ⌝ }
 {
+    let x = ext_inside(ext, 120 * r);
     let comp = x.comp;
     let res = x.res;
     let last = first_of(9, gated_elements(x.start, comp, res), rest);
     if (x.add == 0) & (x.mul == 0) & (x.peq == 0) {
         return last;
     }
+    let y = ext_inside(ext, 120 * next_row(ext.len() / 120, r));
     operates(x, y, last)
 }

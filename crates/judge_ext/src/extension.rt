@@ -5,12 +5,19 @@ use inputs::first_of;
 use judge_lookups::gated;
 use judge_lookups::looks_up;
 use judge_lookups::looks_up_five;
+use judge_lookups::next_row;
 use rows::Ext;
+use rows::ext_inside;
 use word::sub;
 ghost use mathlib.Core.Path.{_≡_};
+ghost use mathlib.Core.List.{[]};
+ghost use Prim.Native.Nat.{_/_, _<_};
+ghost use lib.ListN.{length};
 ghost use Rattle.word.specs.Word.{_-ₚ_, _*ₚ_};
 ghost use Rattle.rules.specs.Given.{zero?};
-ghost use Rattle.judge_ext.specs.ExtParts.{extLookupsThen, bitsThen, samesThen, stepsThen, extFails};
+ghost use Rattle.rules.specs.Sizes.{given, tables};
+ghost use Rattle.judge_spec.specs.Judged.{extFailing};
+ghost use Rattle.judge_ext.specs.ExtParts.{extLookupsThen, bitsThen, samesThen, stepsThen};
 
 fn ext_lookups(memory: &[u8], x: Ext, rest: u32) -> u32
     ensures { λ r. ⌜ r ≡ extLookupsThen (now (memory .entry)) x rest ⌝ }
@@ -74,11 +81,14 @@ fn steps(inside: u32, x: Ext, y: Ext) -> u32
     first_of(15, a, first_of(16, b, first_of(17, last, 0)))
 }
 
-// The first rule that fails, and 0 where all hold.
-pub(crate) fn ext_computed(memory: &[u8], x: Ext, y: Ext) -> u32
-    ensures { λ r. ⌜ r ≡ extFails (now (memory .entry)) x y ⌝ }
+// The first rule that fails on row r, and 0 where all hold, by the polynomials alone.
+pub fn ext_rule(memory: &[u8], ext: &[u8], r: usize) -> u32
+    requires { ⌜ r < length (now ext) / 120 ⌝ }
+    ensures { λ f. ⌜ f ≡ extFailing (given [] (now (memory .entry))) (tables [] (now (ext .entry))) r ⌝ }
 {
+    let x = ext_inside(ext, 120 * r);
+    let y = ext_inside(ext, 120 * next_row(ext.len() / 120, r));
     let inside = sub(1, y.start);
     let inner = sames(inside, x, y, steps(inside, x, y));
-    ext_lookups(memory, x, bits(x, accumulates(x, y, inner)))
+    ext_lookups(memory, x, bits(x, accumulates(ext, r, inner)))
 }

@@ -1,6 +1,6 @@
 // One walk over each table: the first row with a rule that fails, and what its rows tell on the way, as they are read
-// anyway: whether their words are below p, and where the pushes leave the pulls that stand in the same order. An
-// extension row is kept for the row before; of the next execution row only pc and fp are used.
+// anyway: whether their words are below p, and where the pushes leave the pulls that stand in the same order. Of the
+// next execution row only pc and fp are used.
 use bus_tuples::after_row;
 use form::instruction_inside;
 use inputs::eight_words;
@@ -10,7 +10,6 @@ use judge_ext::ext_failing;
 use judge_ext::ext_rule;
 use judge_lookups::next_row;
 use rows::exec_inside;
-use rows::ext_inside;
 ghost use mathlib.Core.Path.{_≡_};
 ghost use mathlib.Core.List.{[]};
 ghost use Prim.Native.Nat.{_+_, _*_, _/_, _%_, _<_, _≤_};
@@ -83,18 +82,16 @@ fn thirty_words(ext: &[u8], r: usize) -> bool
         & eight_words(ext, 30 * r + 22)
 }
 
-// The same of a table of some whole rows.
+// The same of a table of extension rows.
 pub fn ext_walk(memory: &[u8], ext: &[u8]) -> Extended
-    requires { ⌜ (length (now ext) % 120 ≡ 0) × (120 ≤ length (now ext)) ⌝ }
+    requires { ⌜ length (now ext) % 120 ≡ 0 ⌝ }
     ensures { λ e. ⌜ Tested (extFailing (given [] (now (memory .entry))) (tables [] (now (ext .entry)))) (length (now (ext .entry)) / 120) (now (ext .entry)) (e .at) (e .rule) (e .words) ⌝ }
 {
     let n = ext.len() / 120;
-    let mut x = ext_inside(ext, 0);
     let mut words = true;
     let mut r = 0;
     while r < n {
-        let y = ext_inside(ext, 120 * next_row(n, r));
-        if ext_failing(memory, ext, r, x, y) != 0 {
+        if ext_failing(memory, ext, r) != 0 {
             return Extended {
                 at: r,
                 rule: ext_rule(memory, ext, r),
@@ -102,7 +99,6 @@ pub fn ext_walk(memory: &[u8], ext: &[u8]) -> Extended
             };
         }
         words = words & thirty_words(ext, r);
-        x = y;
         r += 1;
     }
     Extended {

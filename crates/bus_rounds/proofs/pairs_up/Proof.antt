@@ -29,21 +29,27 @@ returns : tie.Need-returns Inv-loop μ-loop
 returns c = λ e. absurd (false≢true e)
 
 loop-holds : tie.Need-loop-holds Inv-loop μ-loop
-loop-holds c = (c .before .span-of .ensures, omega arith, omega arith, λ c h. absurd (omega arith))
+loop-holds c =
+    let first = c .before .round in
+    let room = c .before .before .before .span-of .ensures in
+    (room, omega arith, omega arith, below-more _ _ (λ c h. absurd (omega arith)) (first .ensures (not-false _ (c .if2 .left))))
 
 returns-2 : tie.Need-returns-2 Inv-loop μ-loop
 returns-2 c = λ e. absurd (false≢true e)
 
+returns-3 : tie.Need-returns-3 Inv-loop μ-loop
+returns-3 c = λ e. absurd (false≢true e)
+
 loop-again : tie.Need-loop-again Inv-loop μ-loop
 loop-again c =
     let loop = c .before .before .before .loop in
-    (loop .inv .0, loop .inv .1, omega arith, below-more _ _ (loop .inv .3) (c .before .round .ensures (not-false _ (c .if2 .left))))
+    (loop .inv .0, loop .inv .1, omega arith, below-more _ _ (loop .inv .3) (c .before .round2 .ensures (not-false _ (c .if3 .left))))
 
-returns-3 : tie.Need-returns-3 Inv-loop μ-loop
+returns-4 : tie.Need-returns-4 Inv-loop μ-loop
 unfolding classOf
-returns-3 c =
+returns-4 c =
     let loop = c .before .loop in
-    let rounds = c .before .before .starts .result / 6145 + 1 in
+    let rounds = c .before .before .before .before .starts .result / 6145 + 1 in
     λ _ σ. loop .inv .3 (classOf rounds σ) (omega (arith, mod-lt (hashOf σ / 6553) (loop .inv .1))) σ refl
 
 pub pairs-up-spec : {M : Type 1} → statement M
@@ -56,10 +62,12 @@ pairs-up-spec =
     (λ c κs. search needs)
     (λ c κs. search needs)
     (λ c. search needs)
-    loop-holds
     (λ c κs. search needs)
     returns-2
+    loop-holds
+    (λ c κs. search needs)
+    returns-3
     (λ c. search needs)
     (λ c. search needs)
     loop-again
-    returns-3)
+    returns-4)

@@ -1,14 +1,10 @@
 -- The walk stops at the first row that has a rule that fails.
 use borrow.Author.Needs.{needs}
-use borrow.Author.Tests.{lt-ltb}
 use mathlib.Core.Path.{_≡_, refl, sym, _∙_}
 use mathlib.Core.List.{List, []}
-use Prim.Native.Nat.{ℕ, _+_, _-_, _*_, _/_, _<_}
+use Prim.Native.Nat.{ℕ, _+_, _-_, _*_, _/_}
 use native.Mathlib.Omega.{arith}
 use lib.ListN.{length}
-use Rattle.rows.specs.Rows.{extAt}
-use Rattle.rows.specs.declared.Ext.{Ext}
-use Rattle.rules.specs.Given.{next}
 use Rattle.rules.specs.Sizes.{given, tables}
 use Rattle.judge_spec.specs.Judged.{isWord, extFailing}
 use Rattle.inputs.proofs.Eights.{Tells, eight, eight-more}
@@ -25,30 +21,20 @@ thirty ext r =
     let more = eight-more ext _ i (i + 16) (i + 16) (i + 24) (omega arith) (omega arith) (omega arith) (omega arith) sixteen in
     eight-more ext _ i (i + 24) (i + 22) (i + 30) (omega arith) (omega arith) (omega arith) (omega arith) more
 
--- the row after one, where there is one, is the row paired with it
-next-row : (ext : List ℕ) (n r : ℕ) (y : Ext) → y ≡ extAt ext (120 * next n r) → r + 1 < n → y ≡ extAt ext (120 * (r + 1))
-next-row ext n r y e h = rw (lt-ltb _ _ h) at e
-
 abbrev Inv-loop : tie.InvT-loop
-Inv-loop memory ext n x₀ words₀ r₀ x words r =
-    (n ≡ length ext / 120)
-    × At (extFailing (given [] memory) (tables [] ext)) (length ext / 120) ext 30 r words
-    × (r < n → x ≡ extAt ext (120 * r))
+Inv-loop memory ext n words₀ r₀ words r =
+    (n ≡ length ext / 120) × At (extFailing (given [] memory) (tables [] ext)) (length ext / 120) ext 30 r words
 
 abbrev μ-loop : tie.MeasureT-loop
-μ-loop memory ext n x₀ words₀ r₀ x words r = n - r
+μ-loop memory ext n words₀ r₀ words r = n - r
 
 loop-holds : tie.Need-loop-holds Inv-loop μ-loop
-loop-holds c = (refl, at-first _ _ _ 30, λ h. c .ext-inside .ensures)
-
-ext-failing-requires : tie.Need-ext-failing-requires Inv-loop μ-loop
-ext-failing-requires c κs =
-    (omega arith, (c .before .before .before .loop .inv .2 (omega arith), rw (c .before .next-row .ensures .0) at (c .ext-inside2 .ensures)))
+loop-holds c = (refl, at-first _ _ _ 30)
 
 returns : tie.Need-returns Inv-loop μ-loop
 returns c =
     let tried = c .before .before in
-    let loop = tried .before .before .before .before .loop in
+    let loop = tried .before .before .loop in
     let same = c .ext-rule .ensures ∙ sym (tried .ext-failing .ensures) in
     rw same (row-fails _ _ _ 30 (loop .inv .1) (tried .ext-failing .result) (omega arith) (tried .ext-failing .ensures) (c .before .if1 .taken))
 
@@ -56,14 +42,10 @@ loop-again : tie.Need-loop-again Inv-loop μ-loop
 loop-again c =
     let words = c .thirty-words in
     let tried = c .before .before in
-    let loop = tried .before .before .before .before .loop in
-    let ext = tried .before .before .before .before .before .before .before .before .args .ext .now in
-    let paired = rw (tried .before .before .next-row .ensures .0) at (tried .before .ext-inside2 .ensures) in
-    let rule = tried .ext-failing .ensures in (
-      refl,
-      row-passed _ _ _ 30 (loop .inv .1) (words .result) (omega arith) (sym rule ∙ c .before .if1 .left) (rw (words .ensures) (thirty ext (loop .r))),
-      next-row ext (length ext / 120) (loop .r) _ paired,
-    )
+    let loop = tried .before .before .loop in
+    let ext = tried .before .before .before .before .before .args .ext .now in
+    let rule = tried .ext-failing .ensures in
+    (refl, row-passed _ _ _ 30 (loop .inv .1) (words .result) (omega arith) (sym rule ∙ c .before .if1 .left) (rw (words .ensures) (thirty ext (loop .r))))
 
 returns-2 : tie.Need-returns-2 Inv-loop μ-loop
 returns-2 c = rows-end _ _ _ 30 (c .before .loop .inv .1) (c .loop-test .left) (omega arith)
@@ -74,12 +56,8 @@ ext-walk-spec =
     (tie.spec
     Inv-loop
     μ-loop
-    (λ c κs. search needs)
     loop-holds
     (λ c κs. search needs)
-    (λ c. search needs)
-    (λ c κs. search needs)
-    ext-failing-requires
     (λ c κs. search needs)
     returns
     (λ c κs. search needs)

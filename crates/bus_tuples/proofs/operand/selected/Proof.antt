@@ -1,4 +1,4 @@
--- Flags that say which value it is leave that value; else each step is the definition's.
+-- Flags that say which value it is leave that value; else it is the polynomial's.
 use mathlib.Core.Path.{_∙_}
 use Rattle.bus_tuples.proofs.SelectedLaws.{looked-up, immediate}
 use borrow.Author.Needs.{needs}
@@ -19,19 +19,6 @@ returns-2 c =
     let if3 = c .before .if3 in
     rw (if1 .taken, if3 .taken) (c .add2 .ensures ∙ immediate (start .args .operand) (start .args .value) (start .args .fp))
 
-returns-3 : tie.Need-returns-3
-returns-3 c =
-    rw (
-      c .add5 .ensures,
-      c .before .mul3 .ensures,
-      c .before .before .add4 .ensures,
-      c .before .before .before .add3 .ensures,
-      c .before .before .before .before .mul2 .ensures,
-      c .before .before .before .before .before .mul .ensures,
-      c .before .before .before .before .before .before .sub2 .ensures,
-      c .before .before .before .before .before .before .before .sub .ensures,
-    )
-
 pub selected-spec : {M : Type 1} → statement M
 selected-spec =
     tie.close
@@ -41,11 +28,4 @@ selected-spec =
     (λ c κs. search needs)
     returns-2
     (λ c κs. search needs)
-    (λ c κs. search needs)
-    (λ c κs. search needs)
-    (λ c κs. search needs)
-    (λ c κs. search needs)
-    (λ c κs. search needs)
-    (λ c κs. search needs)
-    (λ c κs. search needs)
-    returns-3)
+    (λ c. search needs))
