@@ -1,23 +1,32 @@
 -- Counting by slots: a slot holds one tuple, and so its count is its tuple's.
 -- Assumes nothing.
-use mathlib.Core.Path.{_≡_, refl, sym, _∙_}
+use mathlib.Core.Path.{_≡_, refl, sym, ap, _∙_}
 use mathlib.Core.Bool.{Bool, true, false, cond}
 use mathlib.Core.List.{List}
-use Prim.Native.Nat.{ℕ, _+_, _≤_, _<_}
+use Prim.Native.Nat.{ℕ, _+_, _-_, _≤_, _<_}
 use native.Mathlib.Omega.{arith}
-use lib.ListN.{length, getD, set}
+use lib.ListN.{length, getD, set, List·getD-eq-default}
 use lib.Seq.{getD-set-same, getD-set-other}
-use lib.Dec.{eqb}
-use borrow.Author.Tests.{eqb-true, eqb-false, eq-eqb, ne-eqb}
+use lib.Dec.{eqb, ltb}
+use borrow.Author.Tests.{eqb-true, eqb-false, eq-eqb, ne-eqb, ltb-true, ltb-false}
 use Rattle.rules.specs.Given.{Given, Tables}
 use Rattle.rules.specs.Bus.{Tuple, sameTuple, pushed, pushes, pulled, pulls, instructionOf, pushedTo, pulledTo, balanced}
+use Rattle.bus_tuples.specs.Sent.{tupleOf}
 use Rattle.bus_search.specs.Slots.{slotOf}
 use Rattle.bus_search.proofs.Slots.{slot-same}
 use Rattle.bus_tuples.proofs.Totals.{one-more, counts-none}
 use Rattle.bus_windows.specs.declared.Tally.{Tally}
 use Rattle.bus_windows.specs.Senders.{Sending, sendingOf, Tallies}
-use Rattle.bus_windows.specs.Window.{plusTo, minusTo, Count, Counted}
+use Rattle.bus_windows.specs.Window.{plusTo, minusTo, Count, Counted, Countable, tallied}
 use Rattle.bus_windows.proofs.Joined.{total-join, total-none, send-push, send-pull}
+
+-- a slot whose count is not 0 is there
+within : (net : List ℕ) (s : ℕ) → 3 ≤ getD net s 0 → s < length net
+within net s some = go (ltb s (length net)) refl
+  where
+    go : (b : Bool) → ltb s (length net) ≡ b → s < length net
+    go true t = ltb-true s (length net) t
+    go false t = absurd (omega (arith, List·getD-eq-default net 0 (ltb-false s (length net) t)))
 
 module _ (send : ℕ → Sending) (slot : Tuple → ℕ) where
   pub starts : (s count : ℕ) → count ≡ 2147483648 → Count send slot s 0 count
@@ -44,6 +53,9 @@ module _ (send : ℕ → Sending) (slot : Tuple → ℕ) where
 
 module _ (g : Given) (t : Tables) (upper lower marks net : List ℕ) (n : ℕ) (x : Tally) (reads : Tallies x (sendingOf g t n))
     (counted : Counted g t upper lower marks net n) where
+  pub countable : n < 536870912 → Countable net
+  countable few s h = has-room (sendingOf g t) (slotOf upper lower marks) (counted s h) few
+
   -- a sender that sends nothing
   pub counts-nothing : x .plus + x .minus ≡ 0 → Counted g t upper lower marks net (n + 1)
   counts-nothing none s h =
@@ -80,6 +92,31 @@ module _ (g : Given) (t : Tables) (upper lower marks net : List ℕ) (n : ℕ) (
       go false t-other =
           let differs : s ≡ q → ⊥ = eqb-false s q t-other in
           other s (set net q value) (getD-set-other net q s value 0 differs) h (λ w. differs (sym w ∙ sym is))
+
+  -- and so what the code does for each
+  pub counts-one : n < 536870912 → Counted g t upper lower marks (tallied upper lower marks net x) (n + 1)
+  unfolding tallied
+  counts-one few = go (eqb (x .plus + x .minus) 0) refl
+    where
+      s : ℕ
+      s = slotOf upper lower marks (tupleOf (x .sent))
+
+      stored : List ℕ
+      stored = set net s (getD net s 0 + x .plus - x .minus)
+
+      sent : (b : Bool) → ltb s 1024 ≡ b → s ≡ slotOf upper lower marks (sendingOf g t n .tuple) → Counted g t upper lower marks (cond (ltb s 1024) stored net) (n + 1)
+      sent true here is =
+          let inside = ltb-true s 1024 here in
+          let room = has-room (sendingOf g t) (slotOf upper lower marks) (counted s inside) few in
+          rw here (counts-held s (getD net s 0 + x .plus - x .minus) is (within net s (room .0)) (omega (arith, room .0, reads .thrice)))
+      sent false here is = rw here (counts-absent (omega (arith, ltb-false s 1024 here)))
+
+      go : (b : Bool) → eqb (x .plus + x .minus) 0 ≡ b
+          → Counted g t upper lower marks (cond (eqb (x .plus + x .minus) 0) net (cond (ltb s 1024) stored net)) (n + 1)
+      go true e = rw e (counts-nothing (eqb-true (x .plus + x .minus) 0 e))
+      go false e =
+          let tuple = reads .tuple-is (eqb-false (x .plus + x .minus) 0 e) in
+          rw e (sent (ltb s 1024) refl (ap (slotOf upper lower marks) tuple))
 
 -- after every sender a slot's count says whether its tuple is pushed as often as it is pulled
 module _ (g : Given) (t : Tables) (upper lower marks : List ℕ) (σ : Tuple) (s : ℕ) (is : s ≡ slotOf upper lower marks σ) (h : s < 1024) where

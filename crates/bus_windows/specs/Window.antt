@@ -1,14 +1,16 @@
 -- Inner: a window, 1024 slots of tuples on the stack, each counted over both tables.
--- Declared in src/: Standing (here).
+-- Declared in src/: Tally, Standing (here).
 use mathlib.Core.Path.{_≡_}
 use mathlib.Core.Bool.{true, false, cond}
 use mathlib.Core.List.{List}
-use Prim.Native.Nat.{ℕ, _+_, _*_, _≤_, _<_}
-use lib.ListN.{length, getD}
-use lib.Dec.{eqb}
+use Prim.Native.Nat.{ℕ, _+_, _-_, _*_, _≤_, _<_}
+use lib.ListN.{length, getD, set}
+use lib.Dec.{eqb, ltb}
 use Rattle.rules.specs.Given.{Given, Tables}
 use Rattle.rules.specs.Bus.{Tuple, total}
+use Rattle.bus_tuples.specs.Sent.{tupleOf}
 use Rattle.bus_search.specs.Slots.{slotOf}
+use Rattle.bus_windows.specs.declared.Tally.{Tally}
 use Rattle.bus_windows.specs.declared.Standing.{Standing}
 use Rattle.bus_windows.specs.declared.Standing.the-variants.{Uncounted, Unequal, Equal}
 use Rattle.bus_windows.specs.Senders.{Sending, sendingOf, equalAt}
@@ -32,6 +34,16 @@ pub record Count (send : ℕ → Sending) (slot : Tuple → ℕ) (s n count : �
 
 abbrev pub Counted : Given → Tables → List ℕ → List ℕ → List ℕ → List ℕ → ℕ → Type 0
 Counted g t upper lower marks net n = (s : ℕ) → s < 1024 → Count (sendingOf g t) (slotOf upper lower marks) s n (getD net s 0)
+
+-- counts that take one sender more without leaving 32 bits
+abbrev pub Countable : List ℕ → Type 0
+Countable net = (s : ℕ) → s < 1024 → (3 ≤ getD net s 0) × (getD net s 0 < 4294967295)
+
+-- the counts with what a sender sends, at its tuple's slot
+unfoldable pub tallied : List ℕ → List ℕ → List ℕ → List ℕ → Tally → List ℕ
+tallied upper lower marks net x =
+    let s = slotOf upper lower marks (tupleOf (x .sent)) in
+    cond (eqb (x .plus + x .minus) 0) net (cond (ltb s 1024) (set net s (getD net s 0 + x .plus - x .minus)) net)
 
 -- the slots hold the tuple of sender j, if it sends one
 abbrev pub InWindow : Given → Tables → List ℕ → List ℕ → List ℕ → ℕ → Type 0

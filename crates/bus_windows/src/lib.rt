@@ -1,5 +1,6 @@
 // The bus where pushes and pulls stand in different orders, or don't match: counted in windows, up to the first sender
 // that is unequal.
+mod count;
 mod fill;
 mod sender;
 mod totals;

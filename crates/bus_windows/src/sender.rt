@@ -14,7 +14,7 @@ ghost use Rattle.bus_tuples.specs.Ready.{Listed, Flagged, Ready};
 ghost use Rattle.bus_windows.specs.Senders.{pushSent, pullSent, sendingOf, senders, Tallies};
 
 // Execution row r. Most rows push nothing: of those no tuple is made.
-fn pusher(program: &[u8], exec: &[u8], r: usize) -> Tally
+pub(crate) fn pusher(program: &[u8], exec: &[u8], r: usize) -> Tally
     requires { ⌜ Listed (now program) (now exec) ⌝ }
     requires { ⌜ r < length (now exec) / 32 ⌝ }
     ensures { λ x. ⌜ Tallies x (pushSent (given (now (program .entry)) []) (tables (now (exec .entry)) []) r) ⌝ }
@@ -40,7 +40,7 @@ fn pusher(program: &[u8], exec: &[u8], r: usize) -> Tally
 }
 
 // Extension row k.
-fn puller(ext: &[u8], k: usize) -> Tally
+pub(crate) fn puller(ext: &[u8], k: usize) -> Tally
     requires { ⌜ Flagged (now ext) ⌝ }
     requires { ⌜ k < length (now ext) / 120 ⌝ }
     ensures { λ x. ⌜ Tallies x (pullSent (tables [] (now (ext .entry))) k) ⌝ }

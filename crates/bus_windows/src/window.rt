@@ -3,6 +3,8 @@
 // caller's may be written, so nothing can be sorted.
 use crate::Looked;
 use crate::Standing;
+use crate::count::count_pulls;
+use crate::count::count_pushes;
 use crate::fill::fill_window;
 use crate::sender::sender;
 use bus_search::seek;
@@ -14,57 +16,6 @@ ghost use Rattle.judge_spec.specs.First.{first};
 ghost use Rattle.bus_tuples.specs.Ready.{Ready};
 ghost use Rattle.bus_windows.specs.Senders.{senders, equalAt, LooksFrom};
 ghost use Rattle.bus_windows.specs.Window.{Counted, InWindow, StandsAt};
-
-// Counts sender j, if the window holds its tuple.
-fn count_one(
-    program: &[u8],
-    exec: &[u8],
-    ext: &[u8],
-    uppers: &[u64; 1024],
-    lowers: &[u64; 1024],
-    marks: &[u64; 256],
-    net: &mut [u32; 1024],
-    j: usize,
-)
-    requires { ⌜ Ready (now program) (now exec) (now ext) ⌝ }
-    requires { ⌜ j < senders (tables (now exec) (now ext)) ⌝ }
-    requires { ⌜ Counted (given (now program) []) (tables (now exec) (now ext)) (now uppers) (now lowers) (now marks) (now net) j ⌝ }
-    ensures { λ _. ⌜ Counted (given (now (program .entry)) []) (tables (now (exec .entry)) (now (ext .entry)))
-        (now (uppers .entry)) (now (lowers .entry)) (now (marks .entry)) (now (net .exit)) (j + 1) ⌝ }
-{
-    let x = sender(program, exec, ext, j);
-    if x.plus + x.minus == 0 {
-        return;
-    }
-    let t = x.sent;
-    let s = seek(uppers, lowers, marks, t);
-    if s < 1024 {
-        net[s] = net[s] + x.plus - x.minus;
-    }
-}
-
-// Counts every sender.
-fn count(
-    program: &[u8],
-    exec: &[u8],
-    ext: &[u8],
-    uppers: &[u64; 1024],
-    lowers: &[u64; 1024],
-    marks: &[u64; 256],
-    net: &mut [u32; 1024],
-)
-    requires { ⌜ Ready (now program) (now exec) (now ext) ⌝ }
-    requires { ⌜ Counted (given (now program) []) (tables (now exec) (now ext)) (now uppers) (now lowers) (now marks) (now net) 0 ⌝ }
-    ensures { λ _. ⌜ Counted (given (now (program .entry)) []) (tables (now (exec .entry)) (now (ext .entry)))
-        (now (uppers .entry)) (now (lowers .entry)) (now (marks .entry)) (now (net .exit)) (senders (tables (now (exec .entry)) (now (ext .entry)))) ⌝ }
-{
-    let n = exec.len() / 32 + ext.len() / 120;
-    let mut j = 0;
-    while j < n {
-        count_one(program, exec, ext, uppers, lowers, marks, net, j);
-        j += 1;
-    }
-}
 
 // What the counts say of sender j.
 fn stands(
@@ -147,7 +98,8 @@ fn count_and_look(
     ensures { λ r. ⌜ LooksFrom (given (now (program .entry)) []) (tables (now (exec .entry)) (now (ext .entry))) from to r ⌝ }
 {
     let mut net = [2147483648u32; 1024];
-    count(program, exec, ext, uppers, lowers, marks, &mut net);
+    count_pushes(program, exec, ext, uppers, lowers, marks, &mut net);
+    count_pulls(program, exec, ext, uppers, lowers, marks, &mut net);
     look(program, exec, ext, uppers, lowers, marks, &net, from, to)
 }
 
