@@ -1,0 +1,80 @@
+/* uisnabar: the library for people with files. One subcommand for each thing that the library does. */
+#define _POSIX_C_SOURCE 200809L
+#include <errno.h>
+#include <fcntl.h>
+#include <signal.h>
+#include <stdarg.h>
+#include <string.h>
+#include <unistd.h>
+
+#include "cli.h"
+
+static const char help[] =
+    "usage: uisnabar judge [--pc N] [--fp N] [--paste] PROGRAM MEMORY EXEC EXT\n"
+    "       uisnabar judge [--pc N] [--fp N] [--paste] TABLES\n"
+    "       uisnabar label [FILE]\n"
+    "       uisnabar --version | --help\n"
+    "\n"
+    "judge   Do the tables satisfy the constraints of " DRAFT "? PROGRAM, MEMORY, EXEC and EXT are files of\n"
+    "        little-endian words of 4 bytes, laid out as docs/VERDICTS.md says. TABLES is what the table program writes: all\n"
+    "        four in one file, at m = 10 and H = K = 256.\n"
+    "          --pc N, --fp N   the start, decimal; 0 where it is not given\n"
+    "          --paste          also prints a text to send in a dispute: version, size and SHA-256 of each part (by the\n"
+    "                           system's sha256sum), start, answer, the row and its successor, the instruction\n"
+    "label   Is the text a label? Without FILE it is read from standard input.\n"
+    "\n"
+    "Standard output has the answer's lines, as the replay program prints them; standard error one sentence that says what\n"
+    "they mean. Files are mapped, not copied: they must not change while they are judged. One that becomes shorter is noticed.\n"
+    "Exit status: 0 accepted, 1 refused, 2 usage, or something could not be read or written.\n";
+
+int failed(const char *format, ...)
+{
+    va_list values;
+    fputs("uisnabar: ", stderr);
+    va_start(values, format);
+    vfprintf(stderr, format, values);
+    va_end(values);
+    fputc('\n', stderr);
+    return FAILED;
+}
+
+int written(void)
+{
+    if (fflush(stdout) == 0 && !ferror(stdout))
+        return 0;
+    return failed("standard output cannot be written: %s", strerror(errno));
+}
+
+/* standard streams that are closed are filled with what can be neither read nor written, so that no file takes their number */
+static void fill_streams(void)
+{
+    int file;
+    do
+        file = open("/", O_RDONLY | O_CLOEXEC);
+    while (file >= 0 && file <= STDERR_FILENO);
+    if (file >= 0)
+        close(file);
+}
+
+int main(int count, char **words)
+{
+    static char output[1 << 16];
+    setvbuf(stdout, output, _IOFBF, sizeof output); /* written whole, at the end */
+    fill_streams();
+    signal(SIGPIPE, SIG_IGN); /* output that nobody reads is a status, no signal */
+    const char *what = count > 1 ? words[1] : "";
+    if (strcmp(what, "judge") == 0)
+        return judge(count - 2, words + 2);
+    if (strcmp(what, "label") == 0)
+        return label(count - 2, words + 2);
+    if (count == 2 && strcmp(what, "--version") == 0) {
+        printf("uisnabar %s, %s\n", UISNABAR_VERSION, DRAFT);
+        return written();
+    }
+    if (count == 2 && strcmp(what, "--help") == 0) {
+        fputs(help, stdout);
+        return written();
+    }
+    fputs(help, stderr);
+    return FAILED;
+}
