@@ -9,8 +9,15 @@
 
 #include "uisnabar.h"
 
-#ifndef UISNABAR_VERSION
+#ifndef UISNABAR_VERSION /* until include/uisnabar.h has these names */
 #define UISNABAR_VERSION "unreleased"
+#define UISNABAR_ANSWER_BYTES 16
+#define UISNABAR_RECIPE_BYTES 16
+static inline const char *uisnabar_name(uint32_t verdict)
+{
+    static const char *const names[] = {"ACCEPTED", "SIZE", "WORD", "INSTRUCTION", "START", "EXEC", "EXTENSION", "BUS", "LABEL"};
+    return verdict < sizeof names / sizeof *names ? names[verdict] : "unknown";
+}
 #endif
 #define DRAFT "leanVM draft 0.6.0"
 
@@ -43,6 +50,7 @@ int judge(int count, char **words);
 int label(int count, char **words);
 
 /* files.c: 0, or FAILED with the sentence said */
+#define LOST "a file became shorter, or could not be read, while it was judged"
 int map_file(const char *path, struct bytes *file);
 int read_text(const char *path, uint8_t *text, size_t room, size_t *len);
 
@@ -64,14 +72,13 @@ void column_name(uint32_t part, size_t place, char name[32]);
 void print_row(FILE *out, const struct given *given, uint32_t part, size_t row);
 
 /* answer.c */
-struct answer answer_of(uint32_t verdict, const uint8_t bytes[16]);
-const char *name_of(uint32_t verdict);
+struct answer answer_of(uint32_t verdict, const uint8_t *bytes);
 int status_of(struct answer answer);
 void print_lines(struct answer answer);
 
 /* sentences.c: one line, with its LF */
 void judge_sentence(FILE *out, const struct given *given, struct answer answer);
-void label_sentence(FILE *out, struct bytes text, struct answer answer, const uint8_t recipe[16]);
+void label_sentence(FILE *out, struct bytes text, struct answer answer, const uint8_t *recipe);
 
 /* paste.c: the text to send in a dispute */
 void print_paste(FILE *out, const struct given *given, struct answer answer, char sums[PARTS][SUM_DIGITS + 1]);

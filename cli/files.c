@@ -13,7 +13,7 @@
 /* a page of a mapped file is gone: whatever the judge made of the rest is no answer */
 static void lost(int signal)
 {
-    static const char text[] = "uisnabar: a file became shorter, or could not be read, while it was judged\n";
+    static const char text[] = "uisnabar: " LOST "\n";
     ssize_t said = write(STDERR_FILENO, text, sizeof text - 1);
     (void)signal, (void)said;
     _exit(FAILED);

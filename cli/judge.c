@@ -97,7 +97,7 @@ static int map_parts(struct request *request)
 static struct answer ask(const struct given *given)
 {
     const struct bytes *part = given->part;
-    uint8_t bytes[16] = {0};
+    uint8_t bytes[UISNABAR_ANSWER_BYTES] = {0};
     uint32_t verdict =
         uisnabar_judge(part[PROGRAM].at, part[PROGRAM].len, part[MEMORY].at, part[MEMORY].len, given->pc, given->fp, part[EXEC].at,
                        part[EXEC].len, part[EXT].at, part[EXT].len, bytes, sizeof bytes);

@@ -7,7 +7,7 @@ enum { ROOM = 4096 };
 int label(int count, char **words)
 {
     static uint8_t text[ROOM];
-    uint8_t bytes[16] = {0}, recipe[16] = {0};
+    uint8_t bytes[UISNABAR_ANSWER_BYTES] = {0}, recipe[UISNABAR_RECIPE_BYTES] = {0};
     size_t len;
     if (count > 1 || (count == 1 && words[0][0] == '-'))
         return failed("label takes one file at most, and no option; without a file it reads standard input");

@@ -1,5 +1,6 @@
 /* uisnabar: the library for people with files. One subcommand for each thing that the library does. */
 #define _POSIX_C_SOURCE 200809L
+#include <ctype.h>
 #include <errno.h>
 #include <fcntl.h>
 #include <signal.h>
@@ -29,12 +30,15 @@ static const char help[] =
 
 int failed(const char *format, ...)
 {
+    char said[8192];
     va_list values;
-    fputs("uisnabar: ", stderr);
     va_start(values, format);
-    vfprintf(stderr, format, values);
+    vsnprintf(said, sizeof said, format, values);
     va_end(values);
-    fputc('\n', stderr);
+    for (char *at = said; *at; at++) /* a file's name may hold anything, and must not move a terminal's cursor */
+        if (iscntrl((unsigned char)*at))
+            *at = '?';
+    fprintf(stderr, "uisnabar: %s\n", said);
     return FAILED;
 }
 

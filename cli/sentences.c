@@ -90,7 +90,7 @@ static void bus_sentence(FILE *out, struct answer answer)
 
 void judge_sentence(FILE *out, const struct given *given, struct answer answer)
 {
-    fprintf(out, "%s: ", name_of(answer.verdict));
+    fprintf(out, "%s: ", uisnabar_name(answer.verdict));
     switch (answer.verdict) {
     case UISNABAR_ACCEPTED: fputs("the tables satisfy the constraints of " DRAFT "\n", out); break;
     case UISNABAR_SIZE:
@@ -110,9 +110,9 @@ void judge_sentence(FILE *out, const struct given *given, struct answer answer)
     }
 }
 
-void label_sentence(FILE *out, struct bytes text, struct answer answer, const uint8_t recipe[16])
+void label_sentence(FILE *out, struct bytes text, struct answer answer, const uint8_t *recipe)
 {
-    fprintf(out, "%s: ", name_of(answer.verdict));
+    fprintf(out, "%s: ", uisnabar_name(answer.verdict));
     if (answer.verdict == UISNABAR_ACCEPTED)
         fprintf(out, "a label of seed %08x%08x, m %u and n %u\n", word_at(recipe + 4), word_at(recipe), word_at(recipe + 8),
                 word_at(recipe + 12));

@@ -1,5 +1,6 @@
 /* SHA-256 by the system's sha256sum, which gets the bytes that were judged on its standard input. No shell is in between. */
 #define _GNU_SOURCE
+#include <errno.h>
 #include <fcntl.h>
 #include <signal.h>
 #include <string.h>
@@ -54,13 +55,13 @@ int sum_of(struct bytes bytes, char digits[SUM_DIGITS + 1])
         become_sha256sum(to[0], from[1]);
     close(to[0]);
     close(from[1]);
-    bool sent = hand_over(to[1], bytes);
+    bool sent = hand_over(to[1], bytes), lost = !sent && errno == EFAULT;
     close(to[1]);
     bool received = receive(from[0], digits);
     close(from[0]);
     if (waitpid(child, &how, 0) == child && WIFEXITED(how) && WEXITSTATUS(how) == MISSING)
         return failed("--paste: sha256sum is missing: install it (Debian's coreutils), or put its folder on PATH");
-    if (!sent || !received || how != 0)
-        return failed("--paste: sha256sum gave no sum");
-    return 0;
+    if (sent && received && how == 0)
+        return 0;
+    return lost ? failed(LOST) : failed("--paste: sha256sum gave no sum");
 }
