@@ -1,4 +1,4 @@
-/* What the files of the command share. Every judgement is the library's (include/uisnabar.h): nothing here tests a rule. */
+/* What the files of the command share. Every judgement is the library's: nothing here tests a rule. */
 #ifndef CLI_H
 #define CLI_H
 
@@ -41,7 +41,7 @@ struct answer {
     uint32_t verdict, part, place, rule;
 };
 
-/* main.c: a sentence on standard error, which gives FAILED; and whether all of standard output was written, 0 or FAILED */
+/* main.c: a sentence on standard error, which gives FAILED; whether standard output was written whole, 0 or FAILED */
 int failed(const char *format, ...) __attribute__((format(printf, 1, 2)));
 int written(void);
 

@@ -32,7 +32,8 @@ static int map(const char *path, int file, size_t len, struct bytes *mapped)
 int map_file(const char *path, struct bytes *mapped)
 {
     struct stat is;
-    int file = open(path, O_RDONLY | O_NONBLOCK | O_NOCTTY | O_CLOEXEC), status = 0; /* a pipe must not keep it waiting */
+    int status = 0;
+    int file = open(path, O_RDONLY | O_NONBLOCK | O_NOCTTY | O_CLOEXEC); /* a pipe must not keep it waiting */
     *mapped = (struct bytes){NULL, 0};
     if (file < 0)
         return failed("%s: %s", path, strerror(errno));

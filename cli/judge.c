@@ -4,7 +4,8 @@
 #include "cli.h"
 
 /* the table program works at m = 10 and H = K = 256, so the program is what stands before these */
-enum { TABLE_MEMORY = 4 * 1024, TABLE_EXEC = 32 * 256, TABLE_EXT = 120 * 256, TABLE_REST = TABLE_MEMORY + TABLE_EXEC + TABLE_EXT };
+enum { TABLE_MEMORY = 4 * 1024, TABLE_EXEC = 32 * 256, TABLE_EXT = 120 * 256 };
+enum { TABLE_REST = TABLE_MEMORY + TABLE_EXEC + TABLE_EXT };
 
 struct request {
     struct given given;
@@ -57,7 +58,7 @@ static int parse(int count, char **words, struct request *request)
         else if (options && strcmp(words[i], "--paste") == 0)
             request->paste = true;
         else if (options && words[i][0] == '-' && words[i][1])
-            status = failed("judge has no option \"%s\": uisnabar --help names those it has; a file of that name goes after --", words[i]);
+            status = failed("judge has no option \"%s\": see uisnabar --help; a file of that name goes after --", words[i]);
         else
             status = add_file(request, words[i]);
     }
@@ -111,7 +112,8 @@ int judge(int count, char **words)
     int status = parse(count, words, &request);
     if (status == 0)
         status = map_parts(&request);
-    for (int part = PROGRAM; part < PARTS && status == 0 && request.paste; part++) /* before the judge: what is missing is said at once */
+    /* sums before the judge: what is missing is said at once */
+    for (int part = PROGRAM; part < PARTS && status == 0 && request.paste; part++)
         status = sum_of(request.given.part[part], sums[part]);
     if (status)
         return status;

@@ -49,7 +49,7 @@ int written(void)
     return failed("standard output cannot be written: %s", strerror(errno));
 }
 
-/* standard streams that are closed are filled with what can be neither read nor written, so that no file takes their number */
+/* a closed standard stream becomes one that can be neither read nor written, so that no file takes its number */
 static void fill_streams(void)
 {
     int file;
@@ -60,25 +60,23 @@ static void fill_streams(void)
         close(file);
 }
 
+static bool is(const char *word, const char *text) { return strcmp(word, text) == 0; }
+
 int main(int count, char **words)
 {
     static char output[1 << 16];
+    const char *what = count > 1 ? words[1] : "", *of = count > 2 ? words[2] : "";
     setvbuf(stdout, output, _IOFBF, sizeof output); /* written whole, at the end */
     fill_streams();
     signal(SIGPIPE, SIG_IGN); /* output that nobody reads is a status, no signal */
-    const char *what = count > 1 ? words[1] : "";
-    if (strcmp(what, "judge") == 0)
-        return judge(count - 2, words + 2);
-    if (strcmp(what, "label") == 0)
-        return label(count - 2, words + 2);
-    if (count == 2 && strcmp(what, "--version") == 0) {
-        printf("uisnabar %s, %s\n", UISNABAR_VERSION, DRAFT);
-        return written();
-    }
-    if (count == 2 && strcmp(what, "--help") == 0) {
+    bool named = is(what, "judge") || is(what, "label");
+    if ((count == 2 && is(what, "--help")) || (count == 3 && named && is(of, "--help")))
         fputs(help, stdout);
-        return written();
-    }
-    fputs(help, stderr);
-    return FAILED;
+    else if (named)
+        return is(what, "judge") ? judge(count - 2, words + 2) : label(count - 2, words + 2);
+    else if (count == 2 && is(what, "--version"))
+        printf("uisnabar %s, %s\n", UISNABAR_VERSION, DRAFT);
+    else
+        return fputs(help, stderr), FAILED;
+    return written();
 }

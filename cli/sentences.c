@@ -1,4 +1,4 @@
-/* One sentence for each answer, that a person can act on. docs/VERDICTS.md has the same words: tests/cli_page.py compares. */
+/* One sentence for each answer, that a person can act on. docs/VERDICTS.md has the same words (tests/cli_page.py). */
 #include <string.h>
 
 #include "cli.h"
@@ -61,8 +61,8 @@ static void rule_sentence(FILE *out, const struct given *given, struct answer an
     bool last = answer.place + (size_t)1 == rows_of(given, answer.part);
     while (rule->words && rule->number != answer.rule)
         rule++;
-    fprintf(out, "%s %u breaks rule %u, %s%s\n", layouts[answer.part].row, answer.place, answer.rule, rule->words ? rule->words : "unknown",
-            last && rule->next ? "; the last row is its own next row" : "");
+    fprintf(out, "%s %u breaks rule %u, %s%s\n", layouts[answer.part].row, answer.place, answer.rule,
+            rule->words ? rule->words : "unknown", last && rule->next ? "; the last row is its own next row" : "");
 }
 
 static void word_sentence(FILE *out, const struct given *given, struct answer answer)

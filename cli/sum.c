@@ -1,4 +1,4 @@
-/* SHA-256 by the system's sha256sum, which gets the bytes that were judged on its standard input. No shell is in between. */
+/* SHA-256 by the system's sha256sum, which gets the bytes that are judged on its standard input. There is no shell. */
 #define _GNU_SOURCE
 #include <errno.h>
 #include <fcntl.h>

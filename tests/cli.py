@@ -1,6 +1,7 @@
 """The command `uisnabar`, run: `python3 tests/cli.py target/cli/uisnabar`, or an emulator's words before it.
 
-Answers are computed by tests/oracle.py, sentences taken from docs/VERDICTS.md, checksums from Python's own SHA-256. In a folder of its own."""
+Answers are computed by tests/oracle.py, sentences taken from docs/VERDICTS.md, sums from Python's own SHA-256. It works
+in a folder of its own."""
 import os
 import pathlib
 import re
@@ -23,9 +24,10 @@ tried, faults = 0, []
 
 
 def run(*words, stdin=b"", stdout=subprocess.PIPE, path=PATH):
-    """(status, standard output, standard error). Closed input stands for a program that must not read."""
+    """(status, standard output, standard error)."""
     given = {"input": stdin} if isinstance(stdin, bytes) else {"stdin": stdin}
-    done = subprocess.run([*COMMAND, *words], stdout=stdout, stderr=subprocess.PIPE, env={**os.environ, "PATH": path}, timeout=120, check=False, **given)
+    done = subprocess.run([*COMMAND, *words], stdout=stdout, stderr=subprocess.PIPE, env={**os.environ, "PATH": path}, timeout=120,
+                          check=False, **given)
     return done.returncode, done.stdout, done.stderr.decode()
 
 
@@ -109,7 +111,7 @@ def numbers():
     """64 bits of each start number count, and nothing but a number is taken."""
     parts, start = each_kind()
     write(parts)
-    for text in ("", "-1", "+1", " 1", "1 ", "1\n", "0x10", "1e3", "1.0", "1,000", "18446744073709551616", "18446744073709551620", "9" * 40, "1a", "\u0661"):
+    for text in ("", "-1", "+1", " 1", "1 ", "1\n", "0x10", "1e3", "1.0", "1,000", "1a", "\u0661", str(2**64), str(2**64 + 4), "9" * 40):
         for option in ("--pc", "--fp"):
             could_not(f"{option} {text!r}", run("judge", option, text, *FILES), f"{option} takes a decimal number")
     could_not("--pc without a number", run("judge", *FILES, "--pc"), "--pc takes a decimal number")
@@ -125,7 +127,8 @@ def numbers():
 def usage():
     status, out, said = run()
     check("no word", (status, out, said.startswith("usage: uisnabar judge")), (2, b"", True))
-    check("--help", run("--help"), (0, said.encode(), ""))
+    for words in (("--help",), ("judge", "--help"), ("label", "--help")):
+        check(f"{words}", run(*words), (0, said.encode(), ""))
     for words in (("judged",), ("--help", "more"), ("--version", "more"), ("",), ("-v",)):
         check(f"{words}", run(*words), (2, b"", said))
     could_not("no file", run("judge"), "0 files")
@@ -141,8 +144,8 @@ def files():
     given = ["judge", "--fp", str(start[1])]
     os.mkfifo("pipe")
     for place in range(4):
-        for path, about in (("missing", "missing: No such file"), ("folder", "folder: not a regular file"), ("pipe", "pipe: not a regular file"),
-                            ("/dev/null", "/dev/null: not a regular file"), ("program/x", "program/x: Not a directory"), ("", "No such file")):
+        for path, about in (("missing", "missing: No such file"), ("program/x", "program/x: Not a directory"), ("", "No such file"),
+                            *[(path, f"{path}: not a regular file") for path in ("folder", "pipe", "/dev/null")]):
             could_not(f"{path} for {FILES[place]}", run(*given, *FILES[:place], path, *FILES[place + 1:]), about)
         pathlib.Path("empty").write_bytes(b"")
         named = run(*given, "--paste", *FILES[:place], "empty", *FILES[place + 1:])
@@ -154,7 +157,9 @@ def files():
     check("no shell was asked", os.path.exists("made"), False)
     with open("memory", "ab") as memory:
         memory.truncate(4 * 2**24)
-    check("a memory of 2^24 words", run(*given, *FILES), (0, shelf.four_lines((0, 0, 0, 0)), cli_cases.sentence((0, 0, 0, 0), parts, start) + "\n"))
+    accepted = (0, 0, 0, 0)
+    said = cli_cases.sentence(accepted, parts, start) + "\n"
+    check("a memory of 2^24 words", run(*given, *FILES), (0, shelf.four_lines(accepted), said))
 
 
 def streams():
@@ -162,7 +167,8 @@ def streams():
     parts, start = each_kind()
     write(parts)
     given = ["judge", "--fp", str(start[1]), *FILES]
-    for words in (given, given + ["--paste"], given[:1] + list(FILES), ["label", str(ROOT / "shelf/seed-0.label")], ["--version"], ["--help"]):
+    label = ["label", str(ROOT / "shelf/seed-0.label")]
+    for words in (given, given + ["--paste"], ["judge", *FILES], label, ["--version"], ["--help"]):
         with open("/dev/full", "wb") as full:
             could_not(f"{words} to a full disk", run(*words, stdout=full), "standard output cannot be written: No space left")
         reading, writing = os.pipe()
@@ -170,7 +176,7 @@ def streams():
         could_not(f"{words} to nobody", run(*words, stdout=writing), "standard output cannot be written: Broken pipe")
         os.close(writing)
         with open("folder/read", "rb") as unwritable:
-            could_not(f"{words} to what is read", run(*words, stdout=unwritable), "standard output cannot be written: Bad file descriptor")
+            could_not(f"{words} to what is read", run(*words, stdout=unwritable), "standard output cannot be written: Bad file")
 
 
 def closed():
@@ -196,7 +202,8 @@ def sums():
     for script, about in (("cat >/dev/null; exit 1", "gave no sum"), ("cat >/dev/null", "gave no sum"), ("exit 0", "gave no sum"),
                           ("cat >/dev/null; echo none", "gave no sum"), ("sha256sum; exit 1", "gave no sum"),
                           (": >exec; sha256sum", "a file became shorter"),  # before its own sum
-                          ("cat >copy; [ $(wc -c <copy) != 30720 ] || : >exec; sha256sum <copy", "a file became shorter")):  # before the judge
+                          # before the judge, after the last sum
+                          ("cat >copy; [ $(wc -c <copy) != 30720 ] || : >exec; sha256sum <copy", "a file became shorter")):
         write(parts)
         tool.write_text(f"#!/bin/sh\nPATH='{PATH}'\n{script}\n")
         tool.chmod(0o755)

@@ -1,5 +1,5 @@
-"""Tables for tests/cli.py, one for each verdict, part and rule, and what `uisnabar judge` must say of them: the numbers by tests/oracle.py, the words
-by docs/VERDICTS.md."""
+"""Tables for tests/cli.py, one for each verdict, part and rule, and what `uisnabar judge` must say of them: the numbers
+by tests/oracle.py, the words by docs/VERDICTS.md."""
 import hashlib
 import re
 
@@ -18,16 +18,17 @@ ELEMENTS = {EXT: 10}  # the column from which a row has elements of five words
 
 
 class Chosen:
-    """The first case of each verdict, part and rule; of each rule also the first on a table's last row. What trials_* call judge on."""
+    """The first case of each verdict, part and rule, and on a table's last two rows; each word. trials_* call it."""
 
     def __init__(self):
         self.cases = {}
 
     def judge(self, name, wanted, parts, start):
-        last = wanted[0] in (5, 6) and wanted[2] == 255
-        if (wanted[0], wanted[1], wanted[3], last) not in self.cases:
+        verdict, part, place, rule = wanted
+        kind = verdict, part, rule, place if verdict == 2 or place > 253 else 0
+        if kind not in self.cases:
             assert oracle.judge(parts[0], parts[1], *start, *parts[2:]) == wanted, name
-            self.cases[wanted[0], wanted[1], wanted[3], last] = name, wanted, parts, start
+            self.cases[kind] = name, wanted, parts, start
         return wanted
 
 
@@ -35,12 +36,14 @@ def cases():
     """(name, answer, parts, start): every part of SIZE, WORD and BUS, every rule."""
     chosen = Chosen()
     parts, start = each_kind()
-    for name, wanted, given in [*trials_input.sizes(parts), *trials_input.wrong_words(parts, range(1, 5)), *trials_input.instructions(parts)]:
+    bad = [*trials_input.sizes(parts), *trials_input.wrong_words(parts, range(1, 5)), *trials_input.instructions(parts)]
+    for name, wanted, given in bad:
         chosen.judge(name, wanted, given, start)
     for wrong in trials_input.starts(*start):
         chosen.cases[wrong] = f"start {wrong}", (4, 0, 0, 0), parts, wrong
     trials_rules.cases(chosen, parts, start)
     trials_judge.buses(chosen, parts, start)
+    trials_judge.late_push(chosen)
     found = {answer[0] for _, answer, _, _ in chosen.cases.values()}
     ruled = {(answer[0], answer[3]) for _, answer, _, _ in chosen.cases.values() if answer[3]}
     assert found == set(range(8)) and ruled == {(5, r) for r in range(1, 17)} | {(6, r) for r in range(1, 22)}
@@ -62,8 +65,8 @@ def words(part):
 
 def word_sentence(part, place, parts):
     row, column = divmod(place, WORDS[part - 1])
-    word = oracle.words_of(parts[part - 1])[place]
-    return f"word {place} of the {LAYOUTS[part - 1][1]}, {words(part)[column]} of {ROW[part]} {row}, is {word}: a word must be below p = {oracle.P}"
+    word, where = oracle.words_of(parts[part - 1])[place], f"{words(part)[column]} of {ROW[part]} {row}"
+    return f"word {place} of the {LAYOUTS[part - 1][1]}, {where}, is {word}: a word must be below p = {oracle.P}"
 
 
 def rule_sentence(part, place, rule, parts):

@@ -1,7 +1,8 @@
 """docs/VERDICTS.md says of each rule what the definitions, the command and the second implementation say.
 
-Rule numbers and order, and the columns that a rule reads, are those of crates/rules/specs; the draft's formulas, evaluated on drawn words, are the
-polynomials of tests/oracle.py; the plain words are cli/sentences.c's, the layouts cli/layout.c's; every definition named is in the file named."""
+Rule numbers and order, and the columns that a rule reads, are those of crates/rules/specs; the draft's formulas,
+evaluated on drawn words, are the polynomials of tests/oracle.py; the plain words are cli/sentences.c's, the layouts
+cli/layout.c's; every definition and theorem named there and in docs/DISPUTE.md is in the file named."""
 import pathlib
 import re
 import sys
@@ -146,7 +147,7 @@ def formulas():
 
 
 def compared(title, which, wanted, names):
-    """The formulas of a table that are polynomials. The second implementation leaves out rules 6 to 8 where their flag is 0."""
+    """The formulas of a table that are polynomials. tests/oracle.py gives rules 6 to 8 where their flag isn't 0."""
     said = rules(title)
     for rule in which:
         found = evaluated(said[rule][0].strip("`").removesuffix(" = 0"), names).words
@@ -192,12 +193,18 @@ def layouts():
 
 
 def named_definitions():
-    """Each name of a definition's cell is defined in the file before it, or in specs/Given of the same crate."""
-    for file, names in re.findall(r"(crates/\S+\.antt) ((?:`[^`]+`(?:, )?)+)", PAGE):
+    """Each definition and theorem that the pages name is in the file before it, or in specs/Given of the same crate."""
+    text = PAGE + (ROOT / "docs/DISPUTE.md").read_text()
+    names = r" ((?:`[^`]+`(?:,\s)?)+)"
+    found = re.findall(r"(crates/\S+\.antt)" + names, text)
+    for crate, file, named in re.findall(r"`(\w+)`,\s((?:specs|proofs)/\w+)" + names, text):
+        found.append((f"crates/{crate}/{file}.antt", named))
+    for file, named in found:
         path = ROOT / file
         text = path.read_text() + ((SPECS / "Given.antt").read_text() if path.parent == SPECS else "")
-        for name in re.findall(r"`([^`]+)`", names):
-            if not name.startswith("rule ") and not re.search(rf"^(?:abbrev|unfoldable) pub {re.escape(name)} :", text, re.M):
+        for name in re.findall(r"`([^`]+)`", named):
+            defined = re.search(rf"^ *(?:abbrev |unfoldable )?pub (?:record )?{re.escape(name)} [:(]", text, re.M)
+            if not defined and not name.startswith("rule "):
                 yield f"{file} has no {name}"
 
 
