@@ -31,16 +31,19 @@ static bool hand_over(int to, struct bytes bytes)
     return true;
 }
 
+/* its line to the end, which begins with the digits */
 static bool receive(int from, char digits[SUM_DIGITS + 1])
 {
+    char line[4 * SUM_DIGITS] = "";
     size_t got = 0;
     ssize_t more = 1;
-    while (got < SUM_DIGITS && more > 0) {
-        more = read(from, digits + got, SUM_DIGITS - got);
+    while (got < sizeof line - 1 && more > 0) {
+        more = read(from, line + got, sizeof line - 1 - got);
         got += more > 0 ? (size_t)more : 0;
     }
-    digits[got] = 0;
-    return strspn(digits, "0123456789abcdef") == SUM_DIGITS;
+    memcpy(digits, line, SUM_DIGITS);
+    digits[SUM_DIGITS] = 0;
+    return strspn(line, "0123456789abcdef") == SUM_DIGITS;
 }
 
 int sum_of(struct bytes bytes, char digits[SUM_DIGITS + 1])

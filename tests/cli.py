@@ -200,7 +200,7 @@ def sums():
     own, tool = os.path.abspath("own"), pathlib.Path("own/sha256sum")
     os.mkdir(own)
     for script, about in (("cat >/dev/null; exit 1", "gave no sum"), ("cat >/dev/null", "gave no sum"), ("exit 0", "gave no sum"),
-                          ("cat >/dev/null; echo none", "gave no sum"), ("sha256sum; exit 1", "gave no sum"),
+                          ("cat >/dev/null; echo none", "gave no sum"), ("sha256sum; exit 1", "gave no sum"), ("sha512sum", "gave no sum"),
                           (": >exec; sha256sum", "a file became shorter"),  # before its own sum
                           # before the judge, after the last sum
                           ("cat >copy; [ $(wc -c <copy) != 30720 ] || : >exec; sha256sum <copy", "a file became shorter")):
@@ -208,6 +208,10 @@ def sums():
         tool.write_text(f"#!/bin/sh\nPATH='{PATH}'\n{script}\n")
         tool.chmod(0o755)
         could_not(f"sha256sum as {script!r}", run(*given, path=f"{own}:{PATH}"), about)
+    write(parts)
+    tool.write_text("#!/bin/sh\ncat >/dev/null\nprintf %064d 0\nsleep 0.1\necho '  -'\n")
+    status, out, _ = run(*given, path=f"{own}:{PATH}")
+    check("a sum in two pieces", (status, out.count(b"sha256 " + b"0" * 64 + b"\n")), (0, 4))
 
 
 def pages():
