@@ -104,6 +104,9 @@ named() {
     printf '%s\n' "$said"
 }
 
+# named_in FILE: the same of a file, whatever it holds
+named_in() { named "$(tr -d '\0' <"$1")"; }
+
 # replay_label [FILE]
 replay_label() {
     take_label "$@"

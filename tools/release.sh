@@ -28,10 +28,15 @@ TEXT
 # origin: what a release was made of
 origin() { printf 'version %s\ncommit %s\nkit %s\n' "$(version)" "$(commit)" "$(rt version)"; }
 
+build_library() {
+    need_kit
+    (archive uisnabar) || stop "the library cannot be built"
+}
+
 # ready: everything that is handed out is built
 ready() {
     build replay table
-    (archive uisnabar) || stop "the library cannot be built"
+    build_library
     ! declare -F cli >/dev/null || (cli) || stop "the command cannot be built"
 }
 

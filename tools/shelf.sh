@@ -1,18 +1,21 @@
 # A folder of labels, each with its recorded answer and its tables' checksum beside it. Sourced by bench.
 
+# readable FILE: a file, and no folder, that can be read
+readable() { [ -f "$1" ] && [ -r "$1" ]; }
+
 # compare LABEL OUT: OUT becomes one line, 'same', or 'differs' or 'trouble' and what is to be said
 compare() {
-    local name=${1%.label} recorded_answer recorded_tables answer tables said=''
-    if ! { [ -f "$1" ] && [ -r "$1" ]; }; then
+    local name=${1%.label} recorded_tables tables said=''
+    if ! readable "$1"; then
         printf 'trouble the label cannot be read' >"$2"
-    elif ! { recorded_answer=$(<"$name.answer") && recorded_tables=$(<"$name.tables"); } 2>/dev/null; then
+    elif ! { readable "$name.answer" && readable "$name.tables"; }; then
         printf 'trouble no record beside it' >"$2"
     elif ! { run replay <"$1" >"$2.answer" && tables=$(run table <"$1" | sha256sum); }; then
         printf 'trouble a program failed' >"$2"
     else
-        answer=$(<"$2.answer")
+        recorded_tables=$(tr -d '\0' <"$name.tables")
         cmp -s "$2.answer" "$name.answer" ||
-            said="another answer: recorded $(named "$recorded_answer"), now $(named "$answer")"
+            said="another answer: recorded $(named_in "$name.answer"), now $(named_in "$2.answer")"
         [ "$tables" = "$recorded_tables" ] ||
             said+="${said:+; }other tables: recorded ${recorded_tables%% *}, now ${tables%% *}"
         printf '%s' "${said:+differs }${said:-same}" >"$2"
@@ -114,5 +117,5 @@ record() {
         *) stop "$name not recorded: ${outcome#* }" ;;
     esac
     recorded "$name" "$folder" || place_beside "$name" "$folder"
-    written printf '%s: %s\n' "$name" "$(named "$(<"$work/$name.answer")")"
+    written printf '%s: %s\n' "$name" "$(named_in "$work/$name.answer")"
 }
