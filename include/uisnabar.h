@@ -1,18 +1,18 @@
 /* Uisnabar's C library: the judge of leanVM tables and the reader of labels.
  *
- * Link with libuisnabar.a, as `./bench lib` builds it (x86-64, System V calls); where it is installed, pkg-config knows
- * it as uisnabar. Both functions return; they keep nothing between calls and use no heap; they may be called from several
- * threads at once. CHANGELOG.md says what a driver's author has to change from one version to the next.
+ * Link with libuisnabar.a, as `./bench lib` builds it (x86-64, System V calls); where it is installed, pkg-config
+ * knows it as uisnabar. Both functions return; they keep nothing between calls and use no heap; they may be called
+ * from several threads at once. CHANGELOG.md says what a driver's author has to change from one version to the next.
  *
- * Buffers. Each is a pointer and its length in bytes. The caller owns every buffer and may free or change it once the call
- * returned. A pointer may be null where its length is 0. A buffer that is written must not overlap any other. Inputs are
- * read only within their lengths and never written. Lengths and contents may be anything: what is wrong with them is the
- * answer. No buffer need be aligned. A word of an input is 4 bytes, little-endian, below p = 2^31 - 2^24 + 1 =
- * 2,130,706,433.
+ * Buffers. Each is a pointer and its length in bytes. The caller owns every buffer and may free or change it once the
+ * call returned. A pointer may be null where its length is 0. A buffer that is written must not overlap any other.
+ * Inputs are read only within their lengths and never written. Lengths and contents may be anything: what is wrong
+ * with them is the answer. No buffer need be aligned. A word of an input is 4 bytes, little-endian, below p = 2^31 -
+ * 2^24 + 1 = 2,130,706,433.
  *
- * Answers. The verdict is returned. The four numbers verdict, part, place and rule are written to `answer`, 4 bytes each,
- * little-endian; a number that a verdict does not name is 0. On ANSWER nothing is written, so a driver looks at the
- * returned verdict before it reads the buffer. docs/VERDICTS.md is the same table at length.
+ * Answers. The verdict is returned. The four numbers verdict, part, place and rule are written to `answer`, 4 bytes
+ * each, little-endian; a number that a verdict does not name is 0. On ANSWER nothing is written, so a driver looks at
+ * the returned verdict before it reads the buffer. docs/VERDICTS.md is the same table at length.
  */
 #ifndef UISNABAR_H
 #define UISNABAR_H
@@ -32,8 +32,8 @@
 extern "C" {
 #endif
 
-/* Parts are 1 program, 2 memory, 3 execution table, 4 extension table. 9 to 12 are not returned here: the tabler gives 9 to
- * 11, and the replay program prints 12. */
+/* Parts are 1 program, 2 memory, 3 execution table, 4 extension table. 9 to 12 are not returned here: the tabler gives
+ * 9 to 11, and the replay program prints 12. */
 enum uisnabar_verdict {
     UISNABAR_ACCEPTED = 0,
     UISNABAR_SIZE = 1,        /* part: the lowest of bad length */
@@ -79,8 +79,8 @@ static inline const char *uisnabar_name(uint32_t verdict)
  *   memory   2^m words of 4 bytes, m from 8 to 29
  *   pc, fp   the start. 64 bits wide and compared whole: a number at or above p is no row's and gives START
  *   exec     H rows of 32 bytes, H a power of two from 2^8 to 2^25: pc, fp, addr A, B, C, value A, B, C
- *   ext      K rows of 120 bytes, K a power of two from 2^8 to 2^20: start, add, mul, peq, len, idxA, idxB, idxR, be, vA base;
- *            then vA, vB, comp, res of five words each
+ *   ext      K rows of 120 bytes, K a power of two from 2^8 to 2^20: start, add, mul, peq, len, idxA, idxB, idxR, be,
+ *            vA base; then vA, vB, comp, res of five words each
  *   answer   UISNABAR_ANSWER_BYTES, written on every verdict but ANSWER
  *
  * Returns ACCEPTED, 1 to 7, or ANSWER where answer_len is another. Tests run in number order, ANSWER first.
@@ -94,9 +94,11 @@ uint32_t uisnabar_judge(const uint8_t *program, size_t program_len, const uint8_
 
 /* The label reader.
  *
- *   text     the whole label: `v=1`, `seed=` with 16 lower-case hex digits, `m=` (10 to 29), `n=` (1 to 124), each line ended by LF
+ *   text     the whole label: `v=1`, `seed=` with 16 lower-case hex digits, `m=` (10 to 29), `n=` (1 to 124), each line
+ *            ended by LF
  *   answer   UISNABAR_ANSWER_BYTES, written on every verdict but ANSWER
- *   recipe   UISNABAR_RECIPE_BYTES: seed (8 bytes), m and n (4 each), little-endian; written on ACCEPTED alone, else as it was
+ *   recipe   UISNABAR_RECIPE_BYTES: seed (8 bytes), m and n (4 each), little-endian; written on ACCEPTED alone, else as
+ *            it was
  *
  * Returns ACCEPTED, LABEL, or ANSWER where answer_len or recipe_len is another; nothing is written then.
  */

@@ -1,5 +1,5 @@
-//! Finds libuisnabar.a: in the folder that UISNABAR_LIB_DIR names, or as `./bench lib` built it beside this crate, or in
-//! the tree that this crate was installed with, or where pkg-config says. The archive is for x86-64 Linux.
+//! Finds libuisnabar.a: in the folder that UISNABAR_LIB_DIR names, or as `./bench lib` built it beside this crate, or
+//! in the tree that this crate was installed with, or where pkg-config says. The archive is for x86-64 Linux.
 use std::env;
 use std::path::{Path, PathBuf};
 use std::process::Command;

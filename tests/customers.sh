@@ -1,5 +1,5 @@
-# What customers hold, tried as they would: the commands, the library, an installed tree, the tarball, the crate for Rust.
-# Sourced by bench, which runs `customers`; each fault is a line, and one is enough to fail.
+# What customers hold, tried as they would: the commands, the library, an installed tree, the tarball, the crate for
+# Rust. Sourced by bench, which runs `customers`; each fault is a line, and one is enough to fail.
 . tests/customers/commands.sh
 . tests/customers/shelves.sh
 . tests/customers/handed.sh

@@ -26,7 +26,7 @@ TEXT
 }
 
 # origin: what a release was made of
-origin() { printf 'version %s\ncommit %s\nkit %s\n' "$(version)" "$(commit)" "$(rt version)"; }
+origin() { printf 'version %s\ncommit %s\nkit %s\n' "$(version)" "$(commit)" "$(kit_version)"; }
 
 build_library() {
     need_kit

@@ -35,6 +35,8 @@ commit() {
     { [ -e .git ] && git describe --always --dirty=-changed --abbrev=12 --exclude='*' 2>/dev/null; } || echo unknown
 }
 
+kit_version() { rt version 2>/dev/null || echo unknown; }
+
 # report: a line for each label that is not as recorded, and the counts; 0, 1 or 2 as exit status
 report() {
     local i outcome name differing=0 troubled=0
@@ -50,7 +52,7 @@ report() {
         printf '%s: %s\n' "${name%.label}" "${outcome#* }"
     done
     printf '%s labels, %s differ, %s not compared; commit %s, kit %s\n' \
-        "${#labels[@]}" "$differing" "$troubled" "$(commit)" "$(rt version)"
+        "${#labels[@]}" "$differing" "$troubled" "$(commit)" "$(kit_version)"
     [ "$troubled" = 0 ] || return 2
     [ "$differing" = 0 ]
 }

@@ -1,7 +1,7 @@
 //! The proved judge of leanVM tables and the reader of labels, from libuisnabar.a, without `unsafe` for the caller.
 //!
-//! include/uisnabar.h documents both functions, docs/VERDICTS.md every answer. A call keeps nothing, uses no heap and at
-//! most [`STACK_BYTES`] of stack, and may be made from several threads at once.
+//! include/uisnabar.h documents both functions, docs/VERDICTS.md every answer. A call keeps nothing, uses no heap and
+//! at most [`STACK_BYTES`] of stack, and may be made from several threads at once.
 //!
 //! ```
 //! let refusal = uisnabar::judge(&[], &[], 0, 0, &[], &[]).unwrap_err();
@@ -82,7 +82,8 @@ fn outcome(verdict: u32, answer: &[u8; ANSWER_BYTES]) -> Result<(), Refusal> {
     }
 }
 
-/// Whether the tables satisfy the constraints of leanVM draft 0.6.0 from the start (pc, fp), or the first reason why not.
+/// Whether the tables satisfy the constraints of leanVM draft 0.6.0 from the start (pc, fp), or the first reason why
+/// not.
 pub fn judge(program: &[u8], memory: &[u8], pc: u64, fp: u64, exec: &[u8], ext: &[u8]) -> Result<(), Refusal> {
     let mut answer = [0; ANSWER_BYTES];
     // SAFETY: each pointer comes with its slice's length, and `answer`, which alone is written, is this call's own.

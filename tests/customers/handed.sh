@@ -117,6 +117,7 @@ tarball() {
     first=$(sha256sum <"$name")
     gives 0 ./bench dist
     equal "the tarball, made twice" "$(sha256sum <"$name")" "$first"
+    equal "files that bear a date of their own" "$(tar --utc -tvzf "$name" | grep -vc ' 2000-01-01 00:00 ')" 0
     tar -C "$folder" -xzf "$name" || fault "$name cannot be unpacked"
     mv "$folder/$(basename "$name" .tar.gz)" "$folder/moved"
     gives 0 in_folder "$folder/moved" sha256sum --quiet -c SHA256SUMS

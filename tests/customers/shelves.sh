@@ -4,7 +4,7 @@ shelves() {
     local folder
     gives 0 ./bench shelf shelf
     said ' labels, 0 differ, 0 not compared; '
-    equal "the shelf's last words" "$(tail -n 1 "$work/said" | sed 's/.*; //')" "commit $(commit), kit $(rt version)"
+    equal "the shelf's last words" "$(tail -n 1 "$work/said" | sed 's/.*; //')" "commit $(commit), kit $(kit_version)"
     # the folder is tested before anything is asked of the kit
     gives 2 without_kit ./bench shelf "$work/none"
     complained "$work/none is no folder"
