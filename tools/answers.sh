@@ -48,7 +48,7 @@ locate() {
 # scratch: work is a folder for this call alone
 scratch() {
     work=$(mktemp -d) || stop "no temporary folder can be made"
-    trap 'rm -rf "$work"' EXIT
+    trap 'kill $(jobs -p) 2>/dev/null || true; rm -rf "$work"' EXIT
 }
 
 # written COMMAND..: hands on what the command writes; a write that fails is said, and status 2
@@ -86,9 +86,12 @@ build() {
     done
 }
 
-# ask: answer is what the replay program prints, and verdict its number
+# replayed LABEL: what the replay program prints, and a dot, so that a variable keeps the last line's end
+replayed() { run replay <"$1" && printf .; }
+
+# ask: answer is what the replay program prints and a dot, and verdict its number
 ask() {
-    answer=$(run replay <"$work/label") || stop "the replay program failed"
+    answer=$(replayed "$work/label") || stop "the replay program failed"
     [[ $'\n'$answer =~ $'\n'verdict=([0-9]+)$'\n' ]] || stop "the replay program gave no verdict"
     verdict=${BASH_REMATCH[1]}
 }
@@ -112,7 +115,7 @@ replay_label() {
     take_label "$@"
     build replay
     ask
-    written printf '%s\n' "$answer" || exit 2
+    written printf '%s' "${answer%.}"
     [ "$verdict" = 0 ] || exit 1
 }
 

@@ -5,21 +5,21 @@ readable() { [ -f "$1" ] && [ -r "$1" ]; }
 
 # compare LABEL OUT: OUT becomes one line, 'same', or 'differs' or 'trouble' and what is to be said
 compare() {
-    local name=${1%.label} recorded_tables tables said=''
+    local name=${1%.label} answer recorded tables said=''
     if ! readable "$1"; then
-        printf 'trouble the label cannot be read' >"$2"
+        said='trouble the label cannot be read'
     elif ! { readable "$name.answer" && readable "$name.tables"; }; then
-        printf 'trouble no record beside it' >"$2"
-    elif ! { run replay <"$1" >"$2.answer" && tables=$(run table <"$1" | sha256sum); }; then
-        printf 'trouble a program failed' >"$2"
+        said='trouble no record beside it'
+    elif ! { answer=$(replayed "$1") && tables=$(run table <"$1" | sha256sum); }; then
+        said='trouble a program failed'
     else
-        recorded_tables=$(tr -d '\0' <"$name.tables")
-        cmp -s "$2.answer" "$name.answer" ||
-            said="another answer: recorded $(named_in "$name.answer"), now $(named_in "$2.answer")"
-        [ "$tables" = "$recorded_tables" ] ||
-            said+="${said:+; }other tables: recorded ${recorded_tables%% *}, now ${tables%% *}"
-        printf '%s' "${said:+differs }${said:-same}" >"$2"
+        printf '%s' "${answer%.}" | cmp -s - "$name.answer" ||
+            said="another answer: recorded $(named_in "$name.answer"), now $(named "$answer")"
+        recorded=$(tr -d '\0' <"$name.tables")
+        [ "$tables" = "$recorded" ] || said+="${said:+; }other tables: recorded ${recorded%% *}, now ${tables%% *}"
+        said=${said:+differs $said}
     fi
+    printf '%s\n' "${said:-same}" >"$2"
 }
 
 # strand FIRST STEP: every so many labels from the first on
@@ -41,8 +41,9 @@ kit_version() { rt version 2>/dev/null || echo unknown; }
 report() {
     local i outcome name differing=0 troubled=0
     for ((i = 0; i < ${#labels[@]}; i++)); do
-        outcome='trouble it was not compared'
-        [ ! -s "$work/$i" ] || outcome=$(<"$work/$i")
+        outcome=''
+        [ ! -s "$work/$i" ] || read -r outcome <"$work/$i"
+        : "${outcome:=trouble it was not compared}"
         name=${labels[i]##*/}
         case $outcome in
             same) continue ;;
@@ -112,7 +113,7 @@ record() {
     build replay table
     python3 tests/shelf.py "$work" beside "$name" || stop "the answer cannot be computed"
     compare "$work/$name.label" "$work/outcome"
-    outcome=$(<"$work/outcome")
+    read -r outcome <"$work/outcome" || stop "$name was not compared"
     case $outcome in
         same) ;;
         differs*) say "$name not recorded, the programs differ: ${outcome//recorded/computed}"; exit 1 ;;

@@ -23,7 +23,20 @@ const RECIPE_BYTES: usize = 16;
 
 /// The verdicts by number.
 pub const NAMES: [&str; 14] = [
-    "ACCEPTED", "SIZE", "WORD", "INSTRUCTION", "START", "EXEC", "EXTENSION", "BUS", "LABEL", "STUCK", "ROOM", "OPEN", "SELF", "ANSWER",
+    "ACCEPTED",
+    "SIZE",
+    "WORD",
+    "INSTRUCTION",
+    "START",
+    "EXEC",
+    "EXTENSION",
+    "BUS",
+    "LABEL",
+    "STUCK",
+    "ROOM",
+    "OPEN",
+    "SELF",
+    "ANSWER",
 ];
 const ACCEPTED: u32 = 0;
 const ANSWER: u32 = 13;
@@ -31,10 +44,27 @@ const ANSWER: u32 = 13;
 // As include/uisnabar.h declares them.
 extern "C" {
     fn uisnabar_judge(
-        program: *const u8, program_len: usize, memory: *const u8, memory_len: usize, pc: u64, fp: u64,
-        exec: *const u8, exec_len: usize, ext: *const u8, ext_len: usize, answer: *mut u8, answer_len: usize,
+        program: *const u8,
+        program_len: usize,
+        memory: *const u8,
+        memory_len: usize,
+        pc: u64,
+        fp: u64,
+        exec: *const u8,
+        exec_len: usize,
+        ext: *const u8,
+        ext_len: usize,
+        answer: *mut u8,
+        answer_len: usize,
     ) -> u32;
-    fn uisnabar_label(text: *const u8, text_len: usize, answer: *mut u8, answer_len: usize, recipe: *mut u8, recipe_len: usize) -> u32;
+    fn uisnabar_label(
+        text: *const u8,
+        text_len: usize,
+        answer: *mut u8,
+        answer_len: usize,
+        recipe: *mut u8,
+        recipe_len: usize,
+    ) -> u32;
 }
 
 /// Why tables or a label were refused: the four numbers of docs/VERDICTS.md. The verdict is never 0.
@@ -78,7 +108,12 @@ fn outcome(verdict: u32, answer: &[u8; ANSWER_BYTES]) -> Result<(), Refusal> {
     match verdict {
         ACCEPTED => Ok(()),
         ANSWER => Err(Refusal { verdict, part: 0, place: 0, rule: 0 }),
-        _ => Err(Refusal { verdict, part: number(&answer[4..8]), place: number(&answer[8..12]), rule: number(&answer[12..16]) }),
+        _ => Err(Refusal {
+            verdict,
+            part: number(&answer[4..8]),
+            place: number(&answer[8..12]),
+            rule: number(&answer[12..16]),
+        }),
     }
 }
 
@@ -89,8 +124,18 @@ pub fn judge(program: &[u8], memory: &[u8], pc: u64, fp: u64, exec: &[u8], ext: 
     // SAFETY: each pointer comes with its slice's length, and `answer`, which alone is written, is this call's own.
     let verdict = unsafe {
         uisnabar_judge(
-            program.as_ptr(), program.len(), memory.as_ptr(), memory.len(), pc, fp,
-            exec.as_ptr(), exec.len(), ext.as_ptr(), ext.len(), answer.as_mut_ptr(), answer.len(),
+            program.as_ptr(),
+            program.len(),
+            memory.as_ptr(),
+            memory.len(),
+            pc,
+            fp,
+            exec.as_ptr(),
+            exec.len(),
+            ext.as_ptr(),
+            ext.len(),
+            answer.as_mut_ptr(),
+            answer.len(),
         )
     };
     outcome(verdict, &answer)

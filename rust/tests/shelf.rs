@@ -20,7 +20,8 @@ fn here() -> &'static Path {
 fn labels() -> Vec<PathBuf> {
     let shelf = here().join("../shelf");
     let files = fs::read_dir(&shelf).unwrap_or_else(|fault| panic!("{}: {fault}", shelf.display()));
-    let mut labels: Vec<PathBuf> = files.map(|file| file.unwrap().path()).filter(|path| path.extension() == Some("label".as_ref())).collect();
+    let mut labels: Vec<PathBuf> =
+        files.map(|file| file.unwrap().path()).filter(|path| path.extension() == Some("label".as_ref())).collect();
     labels.sort();
     assert!(labels.len() >= 31, "the shelf has {} labels", labels.len());
     labels
@@ -37,7 +38,9 @@ fn recorded(label: &Path, text: &[u8]) -> (bool, Vec<u32>) {
 fn tables(label: &Path) -> Vec<u8> {
     let named = std::env::var_os("UISNABAR_TABLE").map(PathBuf::from);
     let beside = [here().join("../target/bin/table"), here().join("../../../bin/uisnabar-table")];
-    let program = named.or_else(|| beside.into_iter().find(|path| path.is_file())).expect("no table program: name it in UISNABAR_TABLE");
+    let program = named
+        .or_else(|| beside.into_iter().find(|path| path.is_file()))
+        .expect("no table program: name it in UISNABAR_TABLE");
     let told = Command::new(program).stdin(File::open(label).unwrap()).stderr(Stdio::inherit()).output().unwrap();
     assert!(told.status.success());
     told.stdout
@@ -65,7 +68,12 @@ fn every_label_is_read_as_recorded() {
             }
             Err(refusal) => {
                 assert!(!read, "{}", label.display());
-                assert_eq!(numbers[..4], [refusal.verdict, refusal.part, refusal.place, refusal.rule], "{}", label.display());
+                assert_eq!(
+                    numbers[..4],
+                    [refusal.verdict, refusal.part, refusal.place, refusal.rule],
+                    "{}",
+                    label.display()
+                );
                 assert_eq!(NAMES[refusal.verdict as usize], refusal.name());
                 refused += 1;
             }

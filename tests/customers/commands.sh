@@ -48,16 +48,25 @@ inputs() {
     done
 }
 
-# every command that writes to standard output, where nothing can be written; a refused label too
+# unwritten WORDS..: where nothing can be written
+unwritten() {
+    gives 2 into /dev/full ./bench "$@"
+    gives 2 closed ./bench "$@"
+}
+
+# every command that writes to standard output; a refused label too
 unwritable() {
-    local command
     mkdir "$work/unwritable"
-    for command in 'replay shelf/seed-0.label' 'replay shelf/refused-cut.label' 'table shelf/seed-0.label' 'shelf shelf' \
-        "record shelf/seed-0.label $work/unwritable" dist 'differ 1 5' stack --help 'replay --help'; do
-        # the words of each have no space
-        gives 2 into /dev/full ./bench $command
-        gives 2 closed ./bench $command
-    done
+    unwritten replay shelf/seed-0.label
+    unwritten replay shelf/refused-cut.label
+    unwritten table shelf/seed-0.label
+    unwritten shelf shelf
+    unwritten record shelf/seed-0.label "$work/unwritable"
+    unwritten dist
+    unwritten differ 1 5
+    unwritten stack
+    unwritten --help
+    unwritten replay --help
 }
 
 usages() {
