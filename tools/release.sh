@@ -42,7 +42,8 @@ ready() {
 
 # lay_out PREFIX: library, header, pkg-config file, commands, pages and the crate for Rust
 lay_out() {
-    local share=$1/share/uisnabar doc=$1/share/doc/uisnabar page
+    local share=$1/share/uisnabar doc=$1/share/doc/uisnabar
+    umask 022
     lay 644 target/staticlib/libuisnabar.a "$1/lib" &&
         lay 644 include/uisnabar.h "$1/include" &&
         install -d "$1/lib/pkgconfig" "$1/bin" && pkg_config >"$1/lib/pkgconfig/uisnabar.pc" &&
@@ -54,9 +55,7 @@ lay_out() {
         lay 644 rust/tests/*.rs "$share/rust/tests" &&
         lay 644 shelf/* "$share/shelf" &&
         origin >"$share/origin" || return
-    for page in docs/DISPUTE.md; do
-        [ ! -f "$page" ] || install -m 644 "$page" "$doc" || return
-    done
+    [ ! -f docs/DISPUTE.md ] || lay 644 docs/DISPUTE.md "$doc" || return
     ! declare -F cli >/dev/null || install -m 755 target/cli/uisnabar "$1/bin/uisnabar"
 }
 
@@ -82,9 +81,9 @@ dist() {
     name=uisnabar-$(version)-x86_64-linux
     lay_out "$work/$name" &&
         install -m 644 tools/release.txt "$work/$name/README" &&
-        (cd "$work/$name" && find . -type f -print0 | sort -z | xargs -0 sha256sum) >"$work/sums" &&
+        (cd "$work/$name" && find . -type f -print0 | LC_ALL=C sort -z | xargs -0 sha256sum) >"$work/sums" &&
         install -m 644 "$work/sums" "$work/$name/SHA256SUMS" &&
         mkdir -p target/dist && pack "$work" "$name" "target/dist/$name.tar.gz.new" &&
         mv "target/dist/$name.tar.gz.new" "target/dist/$name.tar.gz" || stop "the tarball cannot be written"
-    written printf '%s\n' "target/dist/$name.tar.gz"
+    written printf '%s\n' "$PWD/target/dist/$name.tar.gz"
 }

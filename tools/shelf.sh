@@ -30,9 +30,10 @@ strand() {
     done
 }
 
-# commit: what is checked out here, and whether something was changed
+# commit: what is checked out here, and whether something was changed; also for one who does not own the folder
 commit() {
-    { [ -e .git ] && git describe --always --dirty=-changed --abbrev=12 --exclude='*' 2>/dev/null; } || echo unknown
+    local git=(git -c safe.directory="$PWD")
+    { [ -e .git ] && "${git[@]}" describe --always --dirty=-changed --abbrev=12 --exclude='*' 2>/dev/null; } || echo unknown
 }
 
 kit_version() { rt version 2>/dev/null || echo unknown; }

@@ -63,10 +63,10 @@ unwritable() {
     unwritten shelf shelf
     unwritten record shelf/seed-0.label "$work/unwritable"
     unwritten dist
-    unwritten differ 1 5
-    unwritten stack
     unwritten --help
     unwritten replay --help
+    gives 2 into /dev/full ./bench differ 1 5
+    gives 2 into /dev/full ./bench stack
 }
 
 usages() {
