@@ -18,7 +18,7 @@ static int untouched(const uint8_t *buffer)
 }
 
 /* Each length but one is ANSWER with nothing written; the one is printed. */
-static int lengths(const char *name, int of_recipe)
+static void lengths(const char *name, int of_recipe)
 {
     static uint8_t answer[MOST], recipe[MOST];
     for (size_t length = 0; length <= MOST; length++) {
@@ -31,7 +31,6 @@ static int lengths(const char *name, int of_recipe)
         else if (!untouched(answer) || !untouched(recipe))
             printf("%s %zu written on ANSWER\n", name, length);
     }
-    return 0;
 }
 
 static void judge_lengths(void)

@@ -66,7 +66,7 @@ holds_tree() {
     flags=$(PKG_CONFIG_PATH=$1/lib/pkgconfig pkg-config --cflags --libs uisnabar) || fault "pkg-config knows no uisnabar"
     equal "pkg-config's version" "$(PKG_CONFIG_PATH=$1/lib/pkgconfig pkg-config --modversion uisnabar)" "$(version)"
     # pkg-config puts a backslash before a space
-    eval "compile \"$work/tree-driver\" \"$doc/driver.c\" $flags" || fault "driver.c cannot be compiled in $1"
+    eval "compile \"\$work/tree-driver\" \"\$doc/driver.c\" $flags" || { fault "driver.c cannot be compiled in $1"; return 0; }
     for label in "$shelf"/*.label; do
         native "$1/bin/uisnabar-replay" <"$label" | cmp -s - "${label%.label}.answer" || fault "another answer: $label"
         native "$1/bin/uisnabar-table" <"$label" >"$work/tables" || fault "uisnabar-table failed: $label"
