@@ -9,16 +9,6 @@
 
 #include "uisnabar.h"
 
-#ifndef UISNABAR_VERSION /* until include/uisnabar.h has these names */
-#define UISNABAR_VERSION "unreleased"
-#define UISNABAR_ANSWER_BYTES 16
-#define UISNABAR_RECIPE_BYTES 16
-static inline const char *uisnabar_name(uint32_t verdict)
-{
-    static const char *const names[] = {"ACCEPTED", "SIZE", "WORD", "INSTRUCTION", "START", "EXEC", "EXTENSION", "BUS", "LABEL"};
-    return verdict < sizeof names / sizeof *names ? names[verdict] : "unknown";
-}
-#endif
 #define DRAFT "leanVM draft 0.6.0"
 
 /* exit statuses; FAILED is usage, or something that cannot be read or written */

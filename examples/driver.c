@@ -1,32 +1,17 @@
 /* Judges what `./bench table` wrote: program, memory and both tables on standard input, at m = 10 and H = K = 256.
+ * Exit status: 0 accepted, 1 refused, 2 could not.
  *
  *     ./bench lib
  *     cc -Iinclude -o driver examples/driver.c target/staticlib/libuisnabar.a
- *     ./bench table <shelf/seed-0.label | ./driver
+ *     ./bench table shelf/seed-0.label | ./driver
+ *
+ * Where the library is installed: cc -o driver driver.c $(pkg-config --cflags --libs uisnabar)
  */
 #include <stdio.h>
-#include <stdlib.h>
 
 #include "uisnabar.h"
 
 enum { MEMORY = 4096, EXEC = 32 * 256, EXT = 120 * 256, PROGRAM = 48 * 125 };
-
-static const char *name(uint32_t verdict)
-{
-    switch (verdict) {
-    case UISNABAR_ACCEPTED: return "ACCEPTED";
-    case UISNABAR_SIZE: return "SIZE";
-    case UISNABAR_WORD: return "WORD";
-    case UISNABAR_INSTRUCTION: return "INSTRUCTION";
-    case UISNABAR_START: return "START";
-    case UISNABAR_EXEC: return "EXEC";
-    case UISNABAR_EXTENSION: return "EXTENSION";
-    case UISNABAR_BUS: return "BUS";
-    case UISNABAR_LABEL: return "LABEL";
-    case UISNABAR_ANSWER: return "ANSWER";
-    }
-    return "unknown";
-}
 
 static uint32_t number(const uint8_t *at)
 {
@@ -36,7 +21,7 @@ static uint32_t number(const uint8_t *at)
 int main(void)
 {
     static uint8_t parts[PROGRAM + MEMORY + EXEC + EXT + 1];
-    uint8_t answer[16];
+    uint8_t answer[UISNABAR_ANSWER_BYTES];
     size_t got = fread(parts, 1, sizeof parts, stdin);
     if (got < MEMORY + EXEC + EXT || got == sizeof parts) {
         fprintf(stderr, "not what the table program writes: %zu bytes\n", got);
@@ -45,6 +30,11 @@ int main(void)
     size_t program_len = got - MEMORY - EXEC - EXT;
     const uint8_t *memory = parts + program_len, *exec = memory + MEMORY, *ext = exec + EXEC;
     uint32_t verdict = uisnabar_judge(parts, program_len, memory, MEMORY, 0, 0, exec, EXEC, ext, EXT, answer, sizeof answer);
-    printf("%s part %u place %u rule %u\n", name(verdict), number(answer + 4), number(answer + 8), number(answer + 12));
+    if (verdict == UISNABAR_ANSWER) /* nothing was written, so there is no number to print */
+        puts(uisnabar_name(verdict));
+    else
+        printf("%s part %u place %u rule %u\n", uisnabar_name(verdict), number(answer + 4), number(answer + 8), number(answer + 12));
+    if (fflush(stdout) != 0)
+        return 2;
     return verdict == UISNABAR_ACCEPTED ? 0 : 1;
 }

@@ -1,15 +1,18 @@
 /* Uisnabar's C library: the judge of leanVM tables and the reader of labels.
  *
- * Link with libuisnabar.a, as `./bench lib` builds it (x86-64, System V calls). Both functions return; they keep nothing between
- * calls, use no heap and need less than 64 KiB of stack; they may be called from several threads at once.
+ * Link with libuisnabar.a, as `./bench lib` builds it (x86-64, System V calls); where it is installed, pkg-config
+ * knows it as uisnabar. Both functions return; they keep nothing between calls and use no heap; they may be called
+ * from several threads at once. CHANGELOG.md says what a driver's author has to change from one version to the next.
  *
- * Buffers. Each is a pointer and its length in bytes. The caller owns every buffer and may free or change it once the call returned. A
- * pointer may be null where its length is 0. A buffer that is written must not overlap any other. Inputs are read only within
- * their lengths and never written. Lengths and contents may be anything: what is wrong with them is the answer. No buffer need be aligned. A word of
- * an input is 4 bytes, little-endian, below p = 2^31 - 2^24 + 1 = 2,130,706,433.
+ * Buffers. Each is a pointer and its length in bytes. The caller owns every buffer and may free or change it once the
+ * call returned. A pointer may be null where its length is 0. A buffer that is written must not overlap any other.
+ * Inputs are read only within their lengths and never written. Lengths and contents may be anything: what is wrong
+ * with them is the answer. No buffer need be aligned. A word of an input is 4 bytes, little-endian, below p = 2^31 -
+ * 2^24 + 1 = 2,130,706,433.
  *
- * Answers. The verdict is returned. The four numbers verdict, part, place and rule are written to `answer` as 16 bytes, 4 each,
- * little-endian; a number that a verdict does not name is 0. docs/VERDICTS.md is the same table at length.
+ * Answers. The verdict is returned. The four numbers verdict, part, place and rule are written to `answer`, 4 bytes
+ * each, little-endian; a number that a verdict does not name is 0. On ANSWER nothing is written, so a driver looks at
+ * the returned verdict before it reads the buffer. docs/VERDICTS.md is the same table at length.
  */
 #ifndef UISNABAR_H
 #define UISNABAR_H
@@ -17,11 +20,20 @@
 #include <stddef.h>
 #include <stdint.h>
 
+/* The version of this header and of the library it was made for. */
+#define UISNABAR_VERSION "1.0.0"
+/* The length of `answer`, and of `recipe`. Later versions may ask for more: use these names, and no number. */
+#define UISNABAR_ANSWER_BYTES 16
+#define UISNABAR_RECIPE_BYTES 16
+/* A call uses no more stack than this. */
+#define UISNABAR_STACK_BYTES 24576
+
 #ifdef __cplusplus
 extern "C" {
 #endif
 
-/* Verdicts that the two functions return. Parts are 1 program, 2 memory, 3 execution table, 4 extension table. */
+/* Parts are 1 program, 2 memory, 3 execution table, 4 extension table. 9 to 12 are not returned here: the tabler gives
+ * 9 to 11, and the replay program prints 12. */
 enum uisnabar_verdict {
     UISNABAR_ACCEPTED = 0,
     UISNABAR_SIZE = 1,        /* part: the lowest of bad length */
@@ -32,8 +44,34 @@ enum uisnabar_verdict {
     UISNABAR_EXTENSION = 6,   /* part 4, place: row, rule: first by row, then 18 to 21, then 1 to 17 */
     UISNABAR_BUS = 7,         /* part 3, place: first pushing row whose tuple is unequal; else part 4, first pulling row */
     UISNABAR_LABEL = 8,       /* place: longest prefix shared with any valid label */
-    UISNABAR_ANSWER = 13      /* a buffer to be written isn't 16 bytes; nothing is written */
+    UISNABAR_STUCK = 9,
+    UISNABAR_ROOM = 10,
+    UISNABAR_OPEN = 11,
+    UISNABAR_SELF = 12,
+    UISNABAR_ANSWER = 13      /* `answer` or `recipe` is of another length; nothing is written */
 };
+
+/* A verdict's name. */
+static inline const char *uisnabar_name(uint32_t verdict)
+{
+    switch (verdict) {
+    case UISNABAR_ACCEPTED: return "ACCEPTED";
+    case UISNABAR_SIZE: return "SIZE";
+    case UISNABAR_WORD: return "WORD";
+    case UISNABAR_INSTRUCTION: return "INSTRUCTION";
+    case UISNABAR_START: return "START";
+    case UISNABAR_EXEC: return "EXEC";
+    case UISNABAR_EXTENSION: return "EXTENSION";
+    case UISNABAR_BUS: return "BUS";
+    case UISNABAR_LABEL: return "LABEL";
+    case UISNABAR_STUCK: return "STUCK";
+    case UISNABAR_ROOM: return "ROOM";
+    case UISNABAR_OPEN: return "OPEN";
+    case UISNABAR_SELF: return "SELF";
+    case UISNABAR_ANSWER: return "ANSWER";
+    }
+    return "unknown";
+}
 
 /* The judge: do the tables satisfy the constraints of leanVM draft 0.6.0?
  *
@@ -41,11 +79,11 @@ enum uisnabar_verdict {
  *   memory   2^m words of 4 bytes, m from 8 to 29
  *   pc, fp   the start. 64 bits wide and compared whole: a number at or above p is no row's and gives START
  *   exec     H rows of 32 bytes, H a power of two from 2^8 to 2^25: pc, fp, addr A, B, C, value A, B, C
- *   ext      K rows of 120 bytes, K a power of two from 2^8 to 2^20: start, add, mul, peq, len, idxA, idxB, idxR, be, vA base;
- *            then vA, vB, comp, res of five words each
- *   answer   16 bytes, written on every verdict but ANSWER
+ *   ext      K rows of 120 bytes, K a power of two from 2^8 to 2^20: start, add, mul, peq, len, idxA, idxB, idxR, be,
+ *            vA base; then vA, vB, comp, res of five words each
+ *   answer   UISNABAR_ANSWER_BYTES, written on every verdict but ANSWER
  *
- * Returns ACCEPTED, 1 to 7, or ANSWER where answer_len isn't 16. Tests run in number order, ANSWER first.
+ * Returns ACCEPTED, 1 to 7, or ANSWER where answer_len is another. Tests run in number order, ANSWER first.
  * Time grows with the bytes handed in where groups stand in execution order, as a tabler writes them. In other orders it grows faster, and
  * tables of the largest sizes that were chosen to be refused may take some 12 to 40 minutes, by estimate (docs/DECISIONS.md, "The bus in the judge"):
  * a driver that judges what strangers send may want to bound its own time.
@@ -56,11 +94,13 @@ uint32_t uisnabar_judge(const uint8_t *program, size_t program_len, const uint8_
 
 /* The label reader.
  *
- *   text     the whole label: `v=1`, `seed=` with 16 lower-case hex digits, `m=` (10 to 29), `n=` (1 to 124), each line ended by LF
- *   answer   16 bytes, written on every verdict but ANSWER
- *   recipe   16 bytes: seed (8 bytes), m and n (4 each), little-endian; written on ACCEPTED alone, else as it was
+ *   text     the whole label: `v=1`, `seed=` with 16 lower-case hex digits, `m=` (10 to 29), `n=` (1 to 124), each line
+ *            ended by LF
+ *   answer   UISNABAR_ANSWER_BYTES, written on every verdict but ANSWER
+ *   recipe   UISNABAR_RECIPE_BYTES: seed (8 bytes), m and n (4 each), little-endian; written on ACCEPTED alone, else as
+ *            it was
  *
- * Returns ACCEPTED, LABEL, or ANSWER where answer_len or recipe_len isn't 16; nothing is written then.
+ * Returns ACCEPTED, LABEL, or ANSWER where answer_len or recipe_len is another; nothing is written then.
  */
 uint32_t uisnabar_label(const uint8_t *text, size_t text_len, uint8_t *answer, size_t answer_len,
                         uint8_t *recipe, size_t recipe_len);

@@ -1,7 +1,8 @@
 """The shelf: labels, and beside each the answer and the tables' checksum, computed by tests/oracle.py from document 01.
 
-`shelf.py DIR check` says what differs from the files that stand there; `shelf.py DIR write` writes them. The labels are chosen here;
-`choice` asserts what they cover."""
+`shelf.py DIR check` says what differs from the files that stand there; `shelf.py DIR write` writes them; `shelf.py DIR beside NAME`
+writes the answer and the checksum of one label that stands there. The labels are chosen here, and `choice` asserts what they cover;
+others may stand beside them (`./bench record`)."""
 import hashlib
 import pathlib
 import sys
@@ -72,20 +73,36 @@ def choice():
     return labels
 
 
-def files():
-    for name, text in sorted(choice().items()):
-        answer, tables = answer_and_tables(text)
-        yield name + ".label", text
-        yield name + ".answer", answer
-        yield name + ".tables", hashlib.sha256(tables).hexdigest().encode() + b"  -\n"
+def beside(name, text):
+    """The three files of a label."""
+    answer, tables = answer_and_tables(text)
+    return {name + ".label": text, name + ".answer": answer, name + ".tables": hashlib.sha256(tables).hexdigest().encode() + b"  -\n"}
 
 
-def main(folder, what):
-    folder, faults, expected = pathlib.Path(folder), 0, dict(files())
+def files(folder):
+    """What belongs into the folder: the files of the labels chosen here, and of those that `./bench record` added."""
+    labels = {path.stem: path.read_bytes() for path in folder.glob("*.label")}
+    expected = {}
+    for name, text in sorted((labels | choice()).items()):
+        expected.update(beside(name, text))
+    return expected
+
+
+def write(folder, expected):
+    folder.mkdir(exist_ok=True)
+    for name, content in expected.items():
+        (folder / name).write_bytes(content)
+
+
+def main(folder, what, *names):
+    folder, faults = pathlib.Path(folder), 0
+    if what == "beside":
+        for name in names:
+            write(folder, beside(name, (folder / (name + ".label")).read_bytes()))
+        return 0
+    expected = files(folder)
     if what == "write":
-        folder.mkdir(exist_ok=True)
-        for name, content in expected.items():
-            (folder / name).write_bytes(content)
+        write(folder, expected)
     for name in sorted(set(expected) | {path.name for path in folder.iterdir()}):
         path = folder / name
         if name not in expected or not path.exists() or path.read_bytes() != expected[name]:

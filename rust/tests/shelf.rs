@@ -1,0 +1,114 @@
+//! The crate against the shelf: each label read, and the tables of each judged, as they are and damaged.
+//!
+//! The tables come from the table program: the one that UISNABAR_TABLE names, or the one built or installed beside this
+//! crate. A shelf stands beside it too.
+use std::fs::{self, File};
+use std::path::{Path, PathBuf};
+use std::process::{Command, Stdio};
+
+use uisnabar::{judge, read_label, Refusal, NAMES};
+
+const MEMORY: usize = 4096;
+const EXEC: usize = 32 * 256;
+const EXT: usize = 120 * 256;
+const P: u32 = 2_130_706_433;
+
+fn here() -> &'static Path {
+    Path::new(env!("CARGO_MANIFEST_DIR"))
+}
+
+fn labels() -> Vec<PathBuf> {
+    let shelf = here().join("../shelf");
+    let files = fs::read_dir(&shelf).unwrap_or_else(|fault| panic!("{}: {fault}", shelf.display()));
+    let mut labels: Vec<PathBuf> =
+        files.map(|file| file.unwrap().path()).filter(|path| path.extension() == Some("label".as_ref())).collect();
+    labels.sort();
+    assert!(labels.len() >= 31, "the shelf has {} labels", labels.len());
+    labels
+}
+
+/// The recorded lines that come after the label, as numbers.
+fn recorded(label: &Path, text: &[u8]) -> (bool, Vec<u32>) {
+    let record = fs::read(label.with_extension("answer")).unwrap();
+    let read = !text.is_empty() && record.starts_with(text);
+    let lines = String::from_utf8(record[if read { text.len() } else { 0 }..].to_vec()).unwrap();
+    (read, lines.lines().map(|line| line.split_once('=').unwrap().1.parse().unwrap()).collect())
+}
+
+fn tables(label: &Path) -> Vec<u8> {
+    let named = std::env::var_os("UISNABAR_TABLE").map(PathBuf::from);
+    let beside = [here().join("../target/bin/table"), here().join("../../../bin/uisnabar-table")];
+    let program = named
+        .or_else(|| beside.into_iter().find(|path| path.is_file()))
+        .expect("no table program: name it in UISNABAR_TABLE");
+    let told = Command::new(program).stdin(File::open(label).unwrap()).stderr(Stdio::inherit()).output().unwrap();
+    assert!(told.status.success());
+    told.stdout
+}
+
+/// The lengths at m = 10 and H = K = 256.
+fn judged(tables: &[u8], pc: u64) -> Result<(), Refusal> {
+    let (program, rest) = tables.split_at(tables.len() - MEMORY - EXEC - EXT);
+    let (memory, rest) = rest.split_at(MEMORY);
+    let (exec, ext) = rest.split_at(EXEC);
+    judge(program, memory, pc, 0, exec, ext)
+}
+
+#[test]
+fn every_label_is_read_as_recorded() {
+    let mut refused = 0;
+    for label in labels() {
+        let text = fs::read(&label).unwrap();
+        let (read, numbers) = recorded(&label, &text);
+        match read_label(&text) {
+            Ok(recipe) => {
+                assert!(read, "{}", label.display());
+                let again = format!("v=1\nseed={:016x}\nm={}\nn={}\n", recipe.seed, recipe.m, recipe.n);
+                assert_eq!(again.as_bytes(), text, "{}", label.display());
+            }
+            Err(refusal) => {
+                assert!(!read, "{}", label.display());
+                assert_eq!(
+                    numbers[..4],
+                    [refusal.verdict, refusal.part, refusal.place, refusal.rule],
+                    "{}",
+                    label.display()
+                );
+                assert_eq!(NAMES[refusal.verdict as usize], refusal.name());
+                refused += 1;
+            }
+        }
+    }
+    assert!(refused >= 7);
+}
+
+#[test]
+fn every_table_is_judged_as_recorded() {
+    let mut accepted = 0;
+    for label in labels() {
+        let (read, numbers) = recorded(&label, &fs::read(&label).unwrap());
+        let mut tables = tables(&label);
+        assert_eq!(tables.is_empty(), !read || numbers[0] != 0, "{}", label.display());
+        if tables.is_empty() {
+            continue;
+        }
+        assert_eq!(judged(&tables, 0), Ok(()), "{}", label.display());
+        // pc is 64 bits wide: a start that is 0 in its lower half alone is another start
+        assert_eq!(judged(&tables, 1 << 32), Err(Refusal { verdict: 4, part: 0, place: 0, rule: 0 }));
+        // another word in value A of row 7: it isn't the cell any more, rule 2
+        let at = tables.len() - EXT - EXEC + 7 * 32 + 5 * 4;
+        let word = u32::from_le_bytes(tables[at..at + 4].try_into().unwrap());
+        tables[at..at + 4].copy_from_slice(&((word + 1) % P).to_le_bytes());
+        assert_eq!(judged(&tables, 0), Err(Refusal { verdict: 5, part: 3, place: 7, rule: 2 }), "{}", label.display());
+        accepted += 1;
+    }
+    assert!(accepted >= 22, "{accepted} tables");
+}
+
+#[test]
+fn lengths_of_any_kind_are_answered() {
+    for bytes in [0, 1, 47, 48, 49] {
+        let refusal = judge(&vec![0; bytes], &[], 0, 0, &[], &[]).unwrap_err();
+        assert_eq!(refusal.to_string(), format!("SIZE part {} place 0 rule 0", if bytes == 48 { 2 } else { 1 }));
+    }
+}

@@ -1,0 +1,142 @@
+# What customers are handed: the header's figures, drivers, an installed tree, the tarball, the crate for Rust.
+# Sourced by tests/customers.sh.
+
+# figure NAME: what the header says, as the compiler sees it
+figure() { sed -n "s/^$1 //p" "$work/figures"; }
+
+# rust_figure FILE NAME: a constant of a Rust file
+rust_figure() { sed -n "s/^\(pub \)\?const $2: usize = \([0-9]*\);$/\2/p" "$1"; }
+
+# the header's figures are the code's, and every other place that states one agrees
+figures() {
+    local file name expected number
+    compile "$work/figures-program" -Iinclude tests/customers/figures.c target/staticlib/libuisnabar.a &&
+        emulated "$work/figures-program" >"$work/figures" || fault "the program that reads the header's figures failed"
+    expected=$(printf "judge's answer %s SIZE\nlabel's answer %s ACCEPTED\nlabel's recipe %s ACCEPTED" \
+        "$(figure answer)" "$(figure answer)" "$(figure recipe)")
+    equal "lengths that the library takes" "$(grep "^judge's\|^label's" "$work/figures")" "$expected"
+    for number in "${!verdicts[@]}"; do
+        echo "verdict $number ${verdicts[number]}"
+    done | cmp -s - <(grep ^verdict "$work/figures") || fault "the header has other verdicts than tools/answers.sh"
+    for file in rust/src/lib.rs examples/driver.rs; do
+        equal "$file, answer" "$(rust_figure "$file" ANSWER_BYTES)" "$(figure answer)"
+        equal "$file, recipe" "$(rust_figure "$file" RECIPE_BYTES)" "$(figure recipe)"
+    done
+    equal "rust/src/lib.rs, stack" "$(rust_figure rust/src/lib.rs STACK_BYTES)" "$(figure stack)"
+    name=$(sed -n '/^pub const NAMES/,/^];/p' rust/src/lib.rs | grep -o '"[A-Z]*"' | tr -d '"' | tr '\n' ' ')
+    equal "rust/src/lib.rs, names" "$name" "$(printf '%s ' "${verdicts[@]}")"
+    equal "rust/Cargo.toml, version" "$(sed -n 's/^version = "\(.*\)"$/\1/p' rust/Cargo.toml)" "$(figure version)"
+    equal "CHANGELOG.md, version" "$(sed -n 's/^## //p' CHANGELOG.md | head -n 1)" "$(figure version)"
+    equal "the header's version as bench reads it" "$(version)" "$(figure version)"
+}
+
+# a driver that is told ANSWER says so, and doesn't read the buffer: each example with a buffer one byte too long
+answer_named() {
+    local spoiled=$work/spoiled long=$(($(figure answer) + 1))
+    mkdir "$spoiled"
+    ./bench table shelf/seed-0.label >"$work/tables"
+    sed "s/^#define UISNABAR_ANSWER_BYTES.*/#define UISNABAR_ANSWER_BYTES $long/" include/uisnabar.h >"$spoiled/uisnabar.h"
+    if compile "$work/spoiled-driver" "-I$spoiled" examples/driver.c target/staticlib/libuisnabar.a; then
+        gives 1 of "$work/tables" emulated "$work/spoiled-driver"
+        said_file <(echo ANSWER)
+    else
+        fault "examples/driver.c cannot be compiled"
+    fi
+    links_rust || return 0
+    sed "s/^const ANSWER_BYTES: usize = .*/const ANSWER_BYTES: usize = $long;/" examples/driver.rs >"$spoiled/driver.rs"
+    gives 0 rustc -O -L target/staticlib -l static=uisnabar -o "$work/spoiled-rust" "$spoiled/driver.rs"
+    gives 1 of "$work/tables" "$work/spoiled-rust"
+    said_file <(echo ANSWER)
+    gives 1 "$work/spoiled-rust" shelf/seed-0.label
+    said_file <(echo ANSWER)
+}
+
+# no exported function uses more stack than the header says
+stack_figure() {
+    gives 0 ./bench stack
+    equal "exported functions measured" "$(grep -c ^uisnabar_ "$work/said")" "$(grep -c '^uint32_t uisnabar_' include/uisnabar.h)"
+    while read -r name bytes _; do
+        [ "$bytes" -le "$(figure stack)" ] || fault "$name uses $bytes bytes of stack, the header says $(figure stack)"
+    done < <(grep ^uisnabar_ "$work/said")
+}
+
+# holds_tree PREFIX: a driver compiled by pkg-config judges; the programs answer the shelf; all as in the repository
+holds_tree() {
+    local doc=$1/share/doc/uisnabar shelf=$1/share/uisnabar/shelf flags label
+    flags=$(PKG_CONFIG_PATH=$1/lib/pkgconfig pkg-config --cflags --libs uisnabar) || fault "pkg-config knows no uisnabar"
+    equal "pkg-config's version" "$(PKG_CONFIG_PATH=$1/lib/pkgconfig pkg-config --modversion uisnabar)" "$(version)"
+    # pkg-config puts a backslash before a space
+    eval "compile \"\$work/tree-driver\" \"\$doc/driver.c\" $flags" || { fault "driver.c cannot be compiled in $1"; return 0; }
+    for label in "$shelf"/*.label; do
+        native "$1/bin/uisnabar-replay" <"$label" | cmp -s - "${label%.label}.answer" || fault "another answer: $label"
+        native "$1/bin/uisnabar-table" <"$label" >"$work/tables" || fault "uisnabar-table failed: $label"
+        equal "$label" "$(sha256sum <"$work/tables")" "$(cat "${label%.label}.tables")"
+        [ ! -s "$work/tables" ] || gives 0 of "$work/tables" emulated "$work/tree-driver"
+    done
+    for label in VERDICTS.md CHANGELOG.md driver.rs; do
+        [ -s "$doc/$label" ] || fault "$doc has no $label"
+    done
+    diff -r shelf "$shelf" >/dev/null || fault "$shelf is not the shelf"
+    ! declare -F cli >/dev/null || gives 0 emulated "$1/bin/uisnabar" --version
+}
+
+# native FILE: a program under the system's loader, on Arm under the kit's
+native() { if [ "$(uname -m)" = x86_64 ]; then "$1"; else loaded "$1"; fi; }
+
+installed() {
+    local folder
+    folder=$(spaced installed)
+    gives 0 in_folder "$folder" "$PWD/bench" install 'the prefix'
+    said ''
+    tree_alone "$folder/the prefix"
+    gives 0 ./bench install "$folder/the prefix"
+    gives 2 ./bench install shelf/seed-0.label
+    complained 'cannot be written'
+    gives 2 ./bench install /dev/null/prefix
+}
+
+# counted_tree PREFIX: the number of faults as status, since it runs apart
+counted_tree() {
+    faults=0
+    holds_tree "$1"
+    return "$((faults < 90 ? faults : 90))"
+}
+
+# tree_alone PREFIX: the tree with no kit on PATH
+tree_alone() {
+    local missed=0
+    without_kit counted_tree "$1" || missed=$?
+    faults=$((faults + missed))
+}
+
+tarball() {
+    local folder first name
+    folder=$(spaced tarball)
+    gives 0 ./bench dist
+    name=$(cat "$work/said")
+    first=$(sha256sum <"$name")
+    gives 0 ./bench dist
+    equal "the tarball, made twice" "$(sha256sum <"$name")" "$first"
+    equal "files that bear a date of their own" "$(tar --utc -tvzf "$name" | grep -vc ' 2000-01-01 00:00 ')" 0
+    tar -C "$folder" -xzf "$name" || fault "$name cannot be unpacked"
+    mv "$folder/$(basename "$name" .tar.gz)" "$folder/moved"
+    gives 0 in_folder "$folder/moved" sha256sum --quiet -c SHA256SUMS
+    equal "files with a checksum" "$(wc -l <"$folder/moved/SHA256SUMS")" "$(($(find "$folder/moved" -type f | wc -l) - 1))"
+    equal "the tarball's origin" "$(cat "$folder/moved/share/uisnabar/origin")" "$(origin)"
+    tree_alone "$folder/moved"
+}
+
+links_rust() { [ "$(uname -m)" = x86_64 ] && command -v rustc >/dev/null; }
+
+# the crate's own tests, in the repository and as the tarball has it, where cargo builds for x86-64
+rust_crate() {
+    if ! { links_rust && command -v cargo >/dev/null; }; then
+        echo "skipped: the crate for Rust, for want of cargo for x86-64"
+        return 0
+    fi
+    local folder="$work/a folder/tarball/moved/share/uisnabar/rust"
+    gives 0 cargo test --offline --locked --quiet --manifest-path rust/Cargo.toml --target-dir "$work/cargo"
+    gives 0 without_kit cargo test --offline --locked --quiet --manifest-path "$folder/Cargo.toml" --target-dir "$work/cargo-tree"
+    gives 101 env UISNABAR_LIB_DIR="$work" cargo build --offline --locked --manifest-path rust/Cargo.toml --target-dir "$work/cargo"
+    complained 'name its folder in UISNABAR_LIB_DIR'
+}
