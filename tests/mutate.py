@@ -122,10 +122,10 @@ def mutate(name, path, old, new):
 def main():
     prepare()
     passed = failed = 0
-    for edit in EDITS:
+    for number, edit in enumerate(EDITS, 1):
         ok, why = mutate(*edit)
         passed, failed = passed + ok, failed + (not ok)
-        print(f"{'refused' if ok else 'FAILED'}: {edit[0]}: {why}", flush=True)
+        print(f"{number} of {len(EDITS)} definitions: {'refused' if ok else 'FAILED'}: {edit[0]}: {why}", flush=True)
     print(f"{passed} passed, {failed} failed")
     return 0 if failed == 0 else 1
 
