@@ -143,7 +143,7 @@ gate() {
         stage "proofs of what changed (rt check)"
         check "what changed is proved, and programs print what they must" rt check
     else
-        stage "proofs, edits, programs (rt ci): by far the longest"
+        stage "proofs, edits, programs (rt ci)"
         proofs
         check "every edit is refused for a fact" tools/hollow
     fi

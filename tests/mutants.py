@@ -35,6 +35,8 @@ def main(argv):
     if unknown:
         sys.exit(f"no such crate: {' '.join(unknown)}")
     names = [name for name in has if name in argv[1:] or not argv[1:]]
+    if not names:
+        sys.exit(f"no mutants of {' '.join(argv[1:])}")
     count = prepare(names)
     print(f"{count} mutants of {len(names)} crates; what is not proved yet is proved first", flush=True)
     tried = passed = 0

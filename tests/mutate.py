@@ -10,6 +10,7 @@ import sys
 
 ROOT = pathlib.Path(__file__).resolve().parent.parent
 SCRATCH = ROOT / "target/mutate"
+WARM = ("rlib", "stamp", "log")  # what rt keeps of crates that are proved
 RULES = "crates/rules/specs/"
 STUCK_ROOM = "STUCK and ROOM in the other order"
 
@@ -81,9 +82,12 @@ def prepare():
         needed(name, lines, crates)
     (SCRATCH / "crates").mkdir(parents=True)
     for name in crates:
-        shutil.copytree(ROOT / "crates" / name, SCRATCH / "crates" / name, ignore=shutil.ignore_patterns("must-fail"))
+        shutil.copytree(ROOT / "crates" / name, SCRATCH / "crates" / name, ignore=shutil.ignore_patterns("must-fail", "mutants"))
     (SCRATCH / "crates.txt").write_text("".join(f"{n}: {' '.join(lines[n])}\n" for n in crates))
-    print("proving run and tabler as they stand", flush=True)
+    for kept in WARM:
+        if (ROOT / "target" / kept).is_dir():
+            shutil.copytree(ROOT / "target" / kept, SCRATCH / "target" / kept)
+    print(f"{len(EDITS)} edits of definitions; {len(crates)} crates are proved as they stand first, where they are not yet", flush=True)
     code, out = rt("check", "run", "tabler")
     if code != 0:
         sys.exit(out[-2000:] + "\nrun or tabler is not proved as it stands")
