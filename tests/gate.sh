@@ -1,7 +1,8 @@
-# The gate, which ./bench sources: stages of checks, each stage with its time, and 'N passed, M failed' as the last line.
+# The gate, which ./bench sources: stages of checks, each with its time, and 'N passed, M failed' as the last line.
 passed=0
 failed=0
 stage_name=''
+stage_number=0
 stages_ended=''
 
 # check NAME COMMAND..: one test outside the proofs
@@ -17,7 +18,8 @@ check() {
     fi
 }
 
-# processor: sets `used` to the processor seconds of all that has ended; `times` says them of this shell alone, so no $(..) here
+# processor: sets `used` to the processor seconds of all that has ended; `times` knows those of this shell alone, so it
+# is not called in $(..)
 processor() {
     times >"$gate_scratch/times"
     used=$(awk 'NR == 2 { gsub(/[ms]/, " "); printf "%d", 60 * $1 + $2 + 60 * $3 + $4 }' "$gate_scratch/times")
@@ -30,7 +32,7 @@ stage() {
         stages_ended+="$stage_name"$'\t'$((SECONDS - stage_began))$'\t'$((used - stage_used))$'\n'
     fi
     stage_name=${1:-} stage_began=$SECONDS stage_used=$used
-    [ -z "$stage_name" ] || echo "== $stage_name"
+    [ -z "$stage_name" ] || echo "== stage $((++stage_number)) of 4: $stage_name"
 }
 
 # the time by stage
@@ -48,10 +50,24 @@ same() {
     "$@" | cmp - "$file"
 }
 
+# counted: what rt ci prints, with the number of each proof and each edit
+counted() {
+    local line proved=0 tried=0 crates edits
+    crates=$(grep -c '^[a-z]' crates.txt)
+    edits=$(find crates -path '*/must-fail/*.edit' | wc -l)
+    while IFS= read -r line; do
+        case $line in
+            "rt: must-fail "*) line+=" [edit $((++tried)) of $edits]" ;;
+            "rt: "*" proved ("*) line+=" [proof $((++proved)) of $crates]" ;;
+        esac
+        printf '%s\n' "$line"
+    done
+}
+
 # proofs: rt ci removes target/, so what it prints is put there when it ends
 proofs() {
     local last
-    rt ci 2>&1 | tee "$gate_scratch/ci.log" || true
+    rt ci 2>&1 | tee "$gate_scratch/ci.log" | counted || true
     mkdir -p target/gate
     cp "$gate_scratch/ci.log" target/gate/
     last=$(tail -n 1 target/gate/ci.log)
@@ -87,7 +103,9 @@ header() {
 }
 
 # endless input is ended by the program itself, which reads no more than a label and a byte
-endless() { { yes || true; } | timeout 20 ./bench replay | cmp - <(printf 'verdict=8\npart=0\nplace=0\nrule=0\n'); }
+endless() {
+    { yes || true; } | { timeout 20 ./bench replay || [ $? = 1 ]; } | cmp - <(printf 'verdict=8\npart=0\nplace=0\nrule=0\n')
+}
 
 page_checks() {
     stage "layout, contracts, pages"
@@ -114,7 +132,7 @@ value_checks() {
 run_checks() {
     stage "programs and library, run"
     check "the shelf, replayed" shelf shelf
-    check "document 01's example, byte for byte" same shelf/refused-n-125.answer ./bench replay <shelf/refused-n-125.label
+    check "document 01's example, byte for byte" same shelf/refused-n-125.answer run replay <shelf/refused-n-125.label
     check "endless input is answered" endless
     check "an example driver in C" driver
     if [ "$(uname -m)" = x86_64 ] && command -v rustc >/dev/null; then

@@ -3,8 +3,8 @@
   mutants.py            all of them
   mutants.py NAME..     those of these crates
 
-In a scratch copy under target/, where they stand as must-fail edits; prints a line for each as it is tried, names those that are refused for no
-fact (tools/hollow), and ends in 'N passed, M failed'."""
+In a scratch copy under target/, where they stand as must-fail edits; prints a line for each as it is tried, names
+those that are refused for no fact (tools/hollow), and ends in 'N passed, M failed'."""
 import pathlib
 import re
 import shutil
