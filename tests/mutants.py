@@ -3,7 +3,8 @@
   mutants.py            all of them
   mutants.py NAME..     those of these crates
 
-In a scratch copy under target/, where they stand as must-fail edits; prints a line for each as it is tried, and 'N passed, M failed'."""
+In a scratch copy under target/, where they stand as must-fail edits; prints a line for each as it is tried, names
+those that are refused for no fact (tools/hollow), and ends in 'N passed, M failed'."""
 import pathlib
 import re
 import shutil
@@ -34,6 +35,8 @@ def main(argv):
     if unknown:
         sys.exit(f"no such crate: {' '.join(unknown)}")
     names = [name for name in has if name in argv[1:] or not argv[1:]]
+    if not names:
+        sys.exit(f"no mutants of {' '.join(argv[1:])}")
     count = prepare(names)
     print(f"{count} mutants of {len(names)} crates; what is not proved yet is proved first", flush=True)
     tried = passed = 0
@@ -42,9 +45,10 @@ def main(argv):
             if re.match(r"rt: (must-fail|\w+ NOT PROVED)", line):
                 tried += "must-fail" in line
                 passed += ": refused" in line
-                print(f"{tried} of {count}: {line.removeprefix('rt: ').strip()[:200]}", flush=True)
+                print(f"{tried} of {count} mutants: {line.removeprefix('rt: ').strip()[:200]}", flush=True)
+    hollow = subprocess.run([ROOT / "tools/hollow", SCRATCH / "target/must-fail"], check=False).returncode
     print(f"{passed} passed, {count - passed} failed")
-    return 0 if passed == count else 1
+    return 1 if hollow or passed != count else 0
 
 
 sys.exit(main(sys.argv))

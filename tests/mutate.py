@@ -10,6 +10,7 @@ import sys
 
 ROOT = pathlib.Path(__file__).resolve().parent.parent
 SCRATCH = ROOT / "target/mutate"
+WARM = ("rlib", "stamp", "log")  # what rt keeps of crates that are proved
 RULES = "crates/rules/specs/"
 STUCK_ROOM = "STUCK and ROOM in the other order"
 
@@ -21,7 +22,7 @@ EDITS = [
     ("extension rule 16 dropped", RULES + "Extension.antt", r"rule 16 \(.*\)$", "rule 16 (zero? 0)"),
     ("extension rule 17 dropped", RULES + "Extension.antt", r"rule 17 \(.*\)$", "rule 17 (zero? 0)"),
     ("execution rule 12 dropped", RULES + "Execution.antt", r"rule 12 \(.*\)$", "rule 12 (zero? 0)"),
-    ("the bus reduced to equal totals", RULES + "Bus.antt", r"^sameTuple s t = .*$", "sameTuple s t = true"),
+    ("the bus reduced to equal totals", RULES + "Bus.antt", r"cond \(sameTuple \(.*\) σ\) \((.*)\) 0\) n$", r"\1) n"),
     ("the last row wrapped to row 0", RULES + "Given.antt", r"^next n r = .*$", "next n r = cond (ltb (r + 1) n) (r + 1) 0"),
     ("padding with comp 0", "crates/tables/specs/Groups.antt", r"(?s)(padding cell =.*?)comp = elementAt cell 0", r"\1comp = 0 ∷ 0 ∷ 0 ∷ 0 ∷ 0 ∷ []"),
     ("C not read on an untaken jump", "crates/machine/specs/Step.antt", r"asked 4 \(legal m s \(f \.c\)\)", "asked 4 (legalC m s f (f .kind))"),
@@ -38,7 +39,6 @@ REFUSER = {STUCK_ROOM: "tabler"}
 
 # what an edit needs beside it
 EXTRA = {
-    "the bus reduced to equal totals": (RULES + "Bus.antt", "use mathlib.Core.Bool.{Bool,", "use mathlib.Core.Bool.{Bool, true,"),
     "padding with comp 0": ("crates/tables/specs/Groups.antt", "use mathlib.Core.Bool.", "use mathlib.Core.List.{[], _∷_}\nuse mathlib.Core.Bool."),
     "C not read on an untaken jump": (
         "crates/machine/specs/Step.antt",
@@ -71,6 +71,9 @@ def rt(*words):
 
 def prepare():
     shutil.rmtree(SCRATCH, ignore_errors=True)
+    for kept in WARM:
+        if (ROOT / "target" / kept).is_dir():
+            shutil.copytree(ROOT / "target" / kept, SCRATCH / "target" / kept)
     lines = {}
     for line in (ROOT / "crates.txt").read_text().splitlines():
         if line and not line.startswith("#"):
@@ -82,7 +85,7 @@ def prepare():
     (SCRATCH / "crates").mkdir(parents=True)
     for name in crates:
         shutil.copytree(ROOT / "crates" / name, SCRATCH / "crates" / name, ignore=shutil.ignore_patterns("must-fail"))
-    (SCRATCH / "crates.txt").write_text("".join(f"{n}: {' '.join(lines[n])}\n" for n in crates))
+    (SCRATCH / "crates.txt").write_text("".join(f"{n}: {' '.join(lines[n])}".rstrip() + "\n" for n in crates))
     print("proving run and tabler as they stand", flush=True)
     code, out = rt("check", "run", "tabler")
     if code != 0:
@@ -125,7 +128,7 @@ def main():
     for edit in EDITS:
         ok, why = mutate(*edit)
         passed, failed = passed + ok, failed + (not ok)
-        print(f"{'refused' if ok else 'FAILED'}: {edit[0]}: {why}", flush=True)
+        print(f"{passed + failed} of {len(EDITS)} edits of definitions: {'refused' if ok else 'FAILED'}: {edit[0]}: {why}", flush=True)
     print(f"{passed} passed, {failed} failed")
     return 0 if failed == 0 else 1
 

@@ -1,9 +1,10 @@
 """The pages and headers say what is true now, as far as a script can see.
 
 The picture of docs/ARCHITECTURE.md is crates.txt's; prose and comments have at most 120 characters a line (tables are exempt); every crate named
-in docs/ in backquotes as `crate::function` has that function; docs/CLAIMS.md lists every edit; each file of specs/ says in its first line what it is: `Inner:` where it serves
-inner functions, and then it cites no section, or else the section or the demand that it states; and it says where each struct and enum that it
-uses is declared. `pages.py write` puts that line into the headers, and the edits into the page."""
+in docs/ in backquotes as `crate::function` has that function; docs/CLAIMS.md lists every edit, and where it cites one as `crate/label` says who
+tries it; each file of specs/ says in its first line what it is: `Inner:` where it serves inner functions, and then it cites no section, or else
+the section or the demand that it states; and it says where each struct and enum that it uses is declared. `pages.py write` puts that line into
+the headers, and the edits into the page."""
 import pathlib
 import re
 import subprocess
@@ -117,9 +118,26 @@ def edits(write):
             yield "docs/CLAIMS.md lists other edits than there are: tests/pages.py write"
 
 
+def cited():
+    """An edit that docs/CLAIMS.md cites stands behind the word that says who tries it, and in that one's folder."""
+    text = (ROOT / "docs/CLAIMS.md").read_text()
+    crates = {path.name for path in (ROOT / "crates").iterdir()}
+    told = set()
+    for word, names in re.findall(r"\b(gate|mutate): ((?:`\w+/\w+`(?:, )?)+)", text):
+        told |= {(name, "must-fail" if word == "gate" else "mutants") for name in re.findall(r"`(\w+/\w+)`", names)}
+    for name in sorted({name for name in re.findall(r"`(\w+/\w+)`", text) if name.split("/")[0] in crates}):
+        crate, label = name.split("/")
+        folders = [folder for other, folder in told if other == name]
+        if not folders:
+            yield f"docs/CLAIMS.md cites {name} and doesn't say whether gate: or mutate: tries it"
+        for folder in folders:
+            if not (ROOT / "crates" / crate / folder / f"{label}.edit").exists():
+                yield f"docs/CLAIMS.md: {name} is not in {folder}/"
+
+
 def main(argv):
     write = argv[1:] == ["write"]
-    faults = [*prose(), *comments(), *definitions(write), *named(), *edits(write)]
+    faults = [*prose(), *comments(), *definitions(write), *named(), *edits(write), *cited()]
     for fault in faults:
         print(fault)
     drawn = subprocess.run([ROOT / "tools/wings", "write" if write else "check"], check=False).returncode
