@@ -1,32 +1,31 @@
 -- Demand 3, converse: each legal run that stays, of a permitted height and with one spare extension row, is written as
--- tables that are accepted.
+-- tables that are accepted, and they are that run's.
 -- Assumes nothing.
-use mathlib.Core.Path.{_≡_, refl}
-use Prim.Native.Nat.{ℕ, _*_, _≤_}
+use mathlib.Core.Path.{_≡_, refl, ap, _∙_}
+use Prim.Native.Nat.{ℕ, _-_, _≤_, _<_}
 use native.Mathlib.Omega.{arith}
 use mathlib.Core.List.{[]}
 use lib.ListN.{length}
 use Rattle.answer.specs.declared.Answer.the-variants.{Accepted}
+use Rattle.rows.specs.declared.Exec.{Exec}
 use Rattle.machine.specs.Machine.{State}
 use Rattle.judge_spec.specs.Judged.{judgeOf}
 use Rattle.judge_spec.proofs.Exactly.{satisfies-accepted}
+use Rattle.judge_spec.proofs.Lengths.{whole}
+use Rattle.tables.specs.Rows.{execRowOf}
+use Rattle.run_steps.specs.Setting.{stateOf}
 use Rattle.run_tables.specs.Setting.{Writable}
-use Rattle.run_tables.proofs.Runs.{own-writable}
+use Rattle.run_tables.proofs.Bytes.{exec-length, ext-length, exec-read}
 use Rattle.run_tables.proofs.Satisfied.{satisfies}
 use Rattle.rules.specs.Sizes.{given}
-use Rattle.run.specs.Runs.{Input, Permitted, LegalRun, Spare, withTables, startOf, pairOf}
-use Rattle.judge_spec.proofs.Lengths.{whole}
+use Rattle.run.specs.Runs.{Input, withTables, machine, startOf, Permitted, LegalRun, Spare, TablesOf, rowState, writtenExec, writtenExt}
 use Rattle.run.proofs.Words.{fit-of}
+use Rattle.run.proofs.Agree.{some-steps}
 
 module _ (i : Input) (permitted : Permitted i) (height extHeight : ℕ) (state : ℕ → State) (legal : LegalRun i height state)
     (spare : Spare i height extHeight state) where
   cells : 256 ≤ given (i .program) (i .memory) .size
   cells = whole (length (i .memory)) 4 29 (permitted .memory-size) .number .least
-
-  rows : 1 ≤ height
-  rows =
-      let h = whole (32 * height) 32 25 (legal .permitted) .number .least in
-      omega arith
 
   writable : Writable (given (i .program) (i .memory)) (startOf i) height extHeight state
   writable =
@@ -36,14 +35,14 @@ module _ (i : Input) (permitted : Permitted i) (height extHeight : ℕ) (state :
             (permitted .instructions);
         five = omega (arith, cells);
         frame = permitted .fp-word;
-        some = rows;
+        some = some-steps legal;
         run = legal .run;
         room = spare .room;
       }
 
-  pub converse : judgeOf (pairOf i height extHeight) ≡ Accepted
+  pub converse : judgeOf (withTables i (writtenExec i height state) (writtenExt i height extHeight state)) ≡ Accepted
   converse =
-      satisfies-accepted (pairOf i height extHeight)
+      satisfies-accepted (withTables i (writtenExec i height state) (writtenExt i height extHeight state))
       (satisfies
       (record {
         program-size = permitted .program-size;
@@ -52,7 +51,25 @@ module _ (i : Input) (permitted : Permitted i) (height extHeight : ℕ) (state :
         ext-size = spare .permitted;
         program-words = permitted .program-words;
         memory-words = permitted .memory-words;
-        writable = own-writable writable;
+        writable = writable;
         exec = refl;
         ext = refl;
       }))
+
+  row-is : (s : State) → stateOf (execRowOf (machine i) s) ≡ s
+  unfolding execRowOf
+  row-is s = refl
+
+  state-of-row : (r : ℕ) → r < height → rowState (writtenExec i height state) r ≡ state r
+  state-of-row r h = ap (λ (x : Exec). stateOf x) (exec-read writable r h) ∙ row-is (state r)
+
+  -- they have H and K rows, row r's pc and fp are the run's state r, and the last row stays
+  pub converse-tables : TablesOf i height extHeight state (writtenExec i height state) (writtenExt i height extHeight state)
+  converse-tables =
+      let some = some-steps legal in
+      record {
+        rows = exec-length (machine i) state height;
+        ext-rows = ext-length (machine i) state height extHeight;
+        states = state-of-row;
+        stays = rw (state-of-row (height - 1) (omega arith)) (legal .run .stays);
+      }

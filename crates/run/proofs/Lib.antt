@@ -4,6 +4,3 @@ pub mod Sound
 pub mod Agree
 pub mod Converse
 pub mod Together
-pub mod Accepts
-pub mod Accepted
-pub mod Tabler
