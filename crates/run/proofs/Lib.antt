@@ -4,3 +4,4 @@ pub mod Sound
 pub mod Agree
 pub mod Converse
 pub mod Together
+pub mod Ending
