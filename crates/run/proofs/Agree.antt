@@ -31,9 +31,9 @@ module _ {m : Machine} {start : State} {k l : ℕ} {s t : ℕ → State} (one : 
       rw (add-suc k d)
       (one-successor (two .steps (k + d) (omega arith)) (ap (step m) (repeats d (omega arith)) ∙ one .stays))
 
--- a permitted height is at least 1
-pub some-steps : {i : Input} {height : ℕ} {state : ℕ → State} → LegalRun i height state → 1 ≤ height
-some-steps {height} legal =
+-- a permitted height is at least 256
+pub many-steps : {i : Input} {height : ℕ} {state : ℕ → State} → LegalRun i height state → 256 ≤ height
+many-steps {height} legal =
     let h = whole (32 * height) 32 25 (legal .permitted) .number .least in
     omega arith
 
@@ -47,7 +47,7 @@ module _ (i : Input) (exec ext : List ℕ) (accepted : judgeOf (withTables i exe
   agree other otherExt second =
       let one = sound i exec ext accepted in
       let two = sound i other otherExt second in
-      let some = some-steps one in
+      let some = many-steps one in
       record {
         rows = λ r h l. agree-on (one .run) (two .run) r (omega arith) (omega arith);
         longer =

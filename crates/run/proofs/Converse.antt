@@ -20,7 +20,7 @@ use Rattle.run_tables.proofs.Satisfied.{satisfies}
 use Rattle.rules.specs.Sizes.{given}
 use Rattle.run.specs.Runs.{Input, withTables, machine, startOf, Permitted, LegalRun, Spare, TablesOf, rowState, writtenExec, writtenExt}
 use Rattle.run.proofs.Words.{fit-of}
-use Rattle.run.proofs.Agree.{some-steps}
+use Rattle.run.proofs.Agree.{many-steps}
 
 module _ (i : Input) (permitted : Permitted i) (height extHeight : ℕ) (state : ℕ → State) (legal : LegalRun i height state)
     (spare : Spare i height extHeight state) where
@@ -35,7 +35,7 @@ module _ (i : Input) (permitted : Permitted i) (height extHeight : ℕ) (state :
             (permitted .instructions);
         five = omega (arith, cells);
         frame = permitted .fp-word;
-        some = some-steps legal;
+        some = omega (arith, many-steps legal);
         run = legal .run;
         room = spare .room;
       }
@@ -66,7 +66,7 @@ module _ (i : Input) (permitted : Permitted i) (height extHeight : ℕ) (state :
   -- they have H and K rows, row r's pc and fp are the run's state r, and the last row stays
   pub converse-tables : TablesOf i height extHeight state (writtenExec i height state) (writtenExt i height extHeight state)
   converse-tables =
-      let some = some-steps legal in
+      let some = many-steps legal in
       record {
         rows = exec-length (machine i) state height;
         ext-rows = ext-length (machine i) state height extHeight;

@@ -5,3 +5,5 @@ pub mod Agree
 pub mod Converse
 pub mod Together
 pub mod Ending
+pub mod Told
+pub mod Telling
