@@ -1,15 +1,12 @@
 -- Every answer of the judge holds: no row, word or rule number is made up, and an acceptance is a proof that the tables
 -- satisfy the constraints. Read from the last test to the first: given that the tests before passed, the answer from a
 -- test on is right.
-use mathlib.Core.Path.{_≡_, refl}
+use mathlib.Core.Path.{refl}
 use mathlib.Core.Logic.{inl, inr}
-use mathlib.Core.Bool.{false, cond}
-use Prim.Native.Nat.{ℕ, suc, _/_, _<_}
+use Prim.Native.Nat.{ℕ, _<_}
 use native.Mathlib.Omega.{arith}
 use lib.Dec.{T}
-use lib.ListN.{length}
-use Rattle.answer.specs.declared.Answer.{Answer}
-use Rattle.answer.specs.declared.Answer.the-variants.{Accepted, Size, Word, Instruction, Exec as ExecRefused, Extension, Bus}
+use Rattle.answer.specs.declared.Answer.the-variants.{Accepted, Instruction, Exec as ExecRefused, Extension, Bus}
 use Rattle.rules.specs.Given.{Given, Tables}
 use Rattle.rules.specs.Bus.{pulled}
 use Rattle.rules.specs.Sizes.{Parts, givenOf, tablesOf}

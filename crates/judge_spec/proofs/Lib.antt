@@ -8,5 +8,6 @@ pub mod BusLaws
 pub mod StageReads
 pub mod PartTests
 pub mod Justified
+pub mod Narrow
 pub mod Only
 pub mod Exactly

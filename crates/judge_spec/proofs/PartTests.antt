@@ -1,7 +1,7 @@
 -- The tests of sizes and words, which judge and tabler make alike: what each says where it passes and where it refuses,
 -- with whatever answer comes next.
 use mathlib.Core.Path.{_≡_, refl, _∙_}
-use mathlib.Core.Bool.{false, cond, true≢false}
+use mathlib.Core.Bool.{cond, true≢false}
 use mathlib.Core.List.{List}
 use Prim.Native.Nat.{ℕ, zero, suc, _/_, _<_}
 use native.Mathlib.Omega.{arith}

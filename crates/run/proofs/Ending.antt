@@ -1,16 +1,16 @@
--- How the tabler's run ends, by what it says of the machine: the first row that is stuck or has no room, else whether the
--- last step stays. Every such answer holds, and one alone does.
+-- How the tabler's run ends, by what it says of the machine: the first row that is stuck or has no room, else whether
+-- the last step stays. Every such answer holds, and one alone does.
 -- Assumes nothing.
 use mathlib.Core.Path.{_≡_, refl, sym, _∙_, ap}
-use mathlib.Core.Bool.{Bool, true, false, _&&_, cond, true≢false}
+use mathlib.Core.Bool.{Bool, true, false, cond, true≢false}
 use mathlib.Core.List.{[], _∷_}
 use Prim.Native.Nat.{ℕ, zero, suc, _+_, _-_, _≤_, _<_}
 use native.Mathlib.Omega.{arith}
-use lib.Dec.{leb, ltb, eqb}
+use lib.Dec.{ltb, eqb}
 use borrow.Author.Tests.{leb-true, leb-false, le-leb, lt-leb, lt-ltb, le-ltb, ltb-true, ltb-false, eqb-true, eq-eqb}
 use Rattle.answer.specs.declared.Answer.{Answer}
 use Rattle.answer.specs.declared.Answer.the-variants.{Accepted, Stuck, Room, Open}
-use Rattle.word.proofs.Tests.{each, cases, by-order, by-test}
+use Rattle.word.proofs.Tests.{each, by-order, by-test}
 use Rattle.machine.specs.Machine.{Machine, State}
 use Rattle.machine.specs.Step.{Outcome, goes, stuck, step}
 use Rattle.machine.specs.Run.{StayingRun, after, proceed}
@@ -19,10 +19,8 @@ use Rattle.judge_spec.proofs.FirstLaws.{first-past, first-before, first-fails, 
 use Rattle.tables.specs.Rows.{stateAt, reached}
 use Rattle.tables.specs.Groups.{filled}
 use Rattle.tabler_spec.specs.Tabled.{sameState, isLegal, rowPasses, refusedAt, ending}
-use Rattle.run_tables.specs.Setting.{LegalSteps}
 use Rattle.run_tables.proofs.Places.{filled-grows}
 use Rattle.run_tables.proofs.Runs.{after-is, state-is, filled-same, before-last, own-run}
-use Rattle.run_steps.proofs.Legal.{one-successor}
 use Rattle.run.specs.Tabler.{LegalTo}
 
 -- two states are the same where the test of their numbers says so

@@ -7,3 +7,5 @@ pub mod Together
 pub mod Ending
 pub mod Told
 pub mod Telling
+pub mod Reasons
+pub mod Tabler

@@ -1,15 +1,15 @@
--- One answer alone holds of what the tabler is handed, the tabler's: where the tests before passed its answer is the next
--- test's, and that one refuses as said.
+-- One answer alone holds of what the tabler is handed, the tabler's: where the tests before passed its answer is the
+-- next test's, and that one refuses as said.
 -- Assumes nothing.
 use mathlib.Core.Path.{_≡_, refl, sym, ap, _∙_, subst}
 use mathlib.Core.Logic.{_↔_}
 use mathlib.Core.List.{List, [], _∷_}
-use Prim.Native.Nat.{ℕ, zero, suc, _-_, _≤_, _<_}
+use Prim.Native.Nat.{ℕ, zero, suc, _-_, _≤_}
 use native.Mathlib.Omega.{arith}
 use lib.Dec.{T}
 use lib.ListN.{length}
-use borrow.Author.Tests.{lt-ltb, ltb-true, ne-eqb}
-use Rattle.word.specs.Word.{p, IsWord}
+use borrow.Author.Tests.{lt-ltb, ltb-true}
+use Rattle.word.specs.Word.{p}
 use Rattle.word.proofs.Tests.{by-test, each}
 use Rattle.answer.specs.declared.Answer.{Answer}
 use Rattle.answer.specs.declared.Answer.the-variants.{

@@ -1,5 +1,5 @@
--- Demand 3, together: where the run of an accepted pair of H rows leaves a spare row in K, the tables written for it are
--- accepted, and they are the accepted pair's: H rows, with its pc and fp on every row, of which the last stays.
+-- Demand 3, together: where the run of an accepted pair of H rows leaves a spare row in K, the tables written for it
+-- are accepted, and they are the accepted pair's: H rows, with its pc and fp on every row, of which the last stays.
 -- Assumes nothing.
 use mathlib.Core.Path.{_≡_}
 use mathlib.Core.List.{List}

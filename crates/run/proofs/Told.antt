@@ -3,9 +3,9 @@
 -- on is right.
 -- Assumes nothing.
 use mathlib.Core.Path.{_≡_, refl, _∙_, ap}
-use mathlib.Core.Bool.{_&&_, true≢false, false}
+use mathlib.Core.Bool.{_&&_, true≢false}
 use mathlib.Core.List.{List, []}
-use Prim.Native.Nat.{ℕ, suc, _-_, _*_, _/_, _≤_, _<_}
+use Prim.Native.Nat.{ℕ, suc, _-_, _*_, _≤_, _<_}
 use native.Mathlib.Omega.{arith}
 use lib.Dec.{T, ltb, ltb→lt}
 use lib.ListN.{length}
@@ -18,7 +18,6 @@ use Rattle.machine.specs.Machine.{State}
 use Rattle.machine.specs.Step.{goes}
 use Rattle.machine.specs.Run.{StayingRun}
 use Rattle.rules.specs.Sizes.{Parts, given, tablesOf}
-use Rattle.rules.specs.Satisfies.{Words}
 use Rattle.tables.specs.Rows.{stateAt}
 use Rattle.judge_spec.specs.Judged.{words, instructions}
 use Rattle.judge_spec.specs.Refusal.{part, partFits}
@@ -27,8 +26,8 @@ use Rattle.judge_spec.proofs.Lengths.{whole}
 use Rattle.judge_spec.proofs.PartTests.{no-words, words-cases, sizes-cases}
 use Rattle.judge_spec.proofs.StageReads.{instructions-read}
 use Rattle.tabler_spec.specs.Tabled.{tableOf, startFits, ending}
-use Rattle.run.specs.Runs.{Input, withTables, machine, startOf, rowsIn, extRowsIn, Permitted}
-use Rattle.run.specs.Tabler.{answerFor, LegalTo, TablerTwo, TablerThree, TablerFour, AcceptedRun, Tells}
+use Rattle.run.specs.Runs.{Input, withTables, machine, startOf, rowsIn, extRowsIn}
+use Rattle.run.specs.Tabler.{answerFor, LegalTo, TablerTwo, TablerThree, TablerFour, Tells}
 use Rattle.run.proofs.Ending.{ending-cases}
 
 -- the tabler's answer from a test on

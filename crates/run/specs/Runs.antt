@@ -2,7 +2,7 @@
 -- that stays and leaves a spare extension row, and tables that are that run's. Document 01, "Layouts", "The machine,
 -- without flags", "The tabler".
 use mathlib.Core.Path.{_≡_}
-use Prim.Native.Nat.{ℕ, suc, _+_, _-_, _*_, _/_, _<_, _≤_}
+use Prim.Native.Nat.{ℕ, _+_, _-_, _*_, _/_, _<_, _≤_}
 use mathlib.Core.List.{List}
 use lib.Dec.{T}
 use lib.ListN.{length}
@@ -36,7 +36,8 @@ machine i = machineOf (i .program) (i .memory)
 abbrev pub startOf : Input → State
 startOf i = record { pc = i .pc; fp = i .fp }
 
--- what verdicts 1 to 4 ask of a program, a memory and a start; a legal run's first pc is in the program, so it is a word
+-- what verdicts 1 to 4 ask of a program, a memory and a start; that pc is a word follows where a run's first step is
+-- legal, as it is in the program
 pub record Permitted (i : Input) : Type 0 where
   pub program-size : T (programFits (length (i .program)))
   pub memory-size : T (memoryFits (length (i .memory)))

@@ -1,9 +1,9 @@
 -- Demand 3 of the tabler. Document 01, "The tabler" and "Verdicts" 0 to 4 and 9 to 11: what each answer of the tabler
 -- says of the program, the memory, the start and the two buffers. Tests run in number order, so each says that those
 -- before it passed.
--- Declared in src/: Answer (answer); Kind, Form (form).
+-- Declared in src/: Form, Kind (form); Answer (answer).
 use mathlib.Core.Path.{_≡_}
-use mathlib.Core.Bool.{Bool, false, _&&_, _||_}
+use mathlib.Core.Bool.{false, _&&_, _||_}
 use mathlib.Core.List.{List, [], _∷_}
 use Prim.Native.Nat.{ℕ, suc, _+_, _-_, _*_, _≤_, _<_}
 use lib.Dec.{T, ltb, eqb}
