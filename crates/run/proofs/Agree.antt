@@ -7,14 +7,12 @@ use mathlib.Core.List.{List}
 use Prim.Native.Nat.{ℕ, zero, suc, _+_, _-_, _*_, _≤_, _<_}
 use native.Mathlib.Nat.{add-zero, add-suc}
 use native.Mathlib.Omega.{arith}
-use Rattle.answer.specs.declared.Answer.the-variants.{Accepted}
 use Rattle.machine.specs.Machine.{Machine, State}
 use Rattle.machine.specs.Step.{step}
 use Rattle.machine.specs.Run.{StayingRun}
-use Rattle.judge_spec.specs.Judged.{judgeOf}
 use Rattle.judge_spec.proofs.Lengths.{whole}
 use Rattle.run_steps.proofs.Legal.{one-successor}
-use Rattle.run.specs.Runs.{Input, withTables, rowsIn, rowState, LegalRun, Agree}
+use Rattle.run.specs.Runs.{Input, JudgeAccepts, rowsIn, rowState, LegalRun, Agree}
 use Rattle.run.proofs.Sound.{sound}
 
 module _ {m : Machine} {start : State} {k l : ℕ} {s t : ℕ → State} (one : StayingRun m start k s) (two : StayingRun m start l t) where
@@ -37,13 +35,13 @@ many-steps {height} legal =
     let h = whole (32 * height) 32 25 (legal .permitted) .number .least in
     omega arith
 
-module _ (i : Input) (exec ext : List ℕ) (accepted : judgeOf (withTables i exec ext) ≡ Accepted) where
+module _ (i : Input) (exec ext : List ℕ) (accepted : JudgeAccepts i exec ext) where
   -- any legal run of the table's height has the states of its rows
   pub one-run : (state : ℕ → State) → LegalRun i (rowsIn exec) state → (r : ℕ) → r < rowsIn exec → state r ≡ rowState exec r
   one-run state legal r h = agree-on (legal .run) (sound i exec ext accepted .run) r (omega arith) (omega arith)
 
   -- two accepted tables, of whatever heights and with whatever extension tables
-  pub agree : (other otherExt : List ℕ) → judgeOf (withTables i other otherExt) ≡ Accepted → Agree exec other
+  pub agree : (other otherExt : List ℕ) → JudgeAccepts i other otherExt → Agree exec other
   agree other otherExt second =
       let one = sound i exec ext accepted in
       let two = sound i other otherExt second in

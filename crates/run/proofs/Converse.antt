@@ -4,12 +4,10 @@
 use mathlib.Core.Path.{_≡_, refl, ap, _∙_}
 use Prim.Native.Nat.{ℕ, _-_, _≤_, _<_}
 use native.Mathlib.Omega.{arith}
-use mathlib.Core.List.{[]}
+use mathlib.Core.List.{List, []}
 use lib.ListN.{length}
-use Rattle.answer.specs.declared.Answer.the-variants.{Accepted}
 use Rattle.rows.specs.declared.Exec.{Exec}
 use Rattle.machine.specs.Machine.{State}
-use Rattle.judge_spec.specs.Judged.{judgeOf}
 use Rattle.judge_spec.proofs.Exactly.{satisfies-accepted}
 use Rattle.judge_spec.proofs.Lengths.{whole}
 use Rattle.tables.specs.Rows.{execRowOf}
@@ -18,7 +16,7 @@ use Rattle.run_tables.specs.Setting.{Writable}
 use Rattle.run_tables.proofs.Bytes.{exec-length, ext-length, exec-read}
 use Rattle.run_tables.proofs.Satisfied.{satisfies}
 use Rattle.rules.specs.Sizes.{given}
-use Rattle.run.specs.Runs.{Input, withTables, machine, startOf, Permitted, LegalRun, Spare, TablesOf, rowState, writtenExec, writtenExt}
+use Rattle.run.specs.Runs.{Input, JudgeAccepts, withTables, machine, startOf, Permitted, LegalRun, Spare, WrittenAs, rowState, writtenExec, writtenExt}
 use Rattle.run.proofs.Words.{fit-of}
 use Rattle.run.proofs.Agree.{many-steps}
 
@@ -40,9 +38,15 @@ module _ (i : Input) (permitted : Permitted i) (height extHeight : ℕ) (state :
         room = spare .room;
       }
 
-  pub converse : judgeOf (withTables i (writtenExec i height state) (writtenExt i height extHeight state)) ≡ Accepted
-  converse =
-      satisfies-accepted (withTables i (writtenExec i height state) (writtenExt i height extHeight state))
+  abbrev exec : List ℕ
+  exec = writtenExec i height state
+
+  abbrev ext : List ℕ
+  ext = writtenExt i height extHeight state
+
+  written-accepted : JudgeAccepts i exec ext
+  written-accepted =
+      satisfies-accepted (withTables i exec ext)
       (satisfies
       (record {
         program-size = permitted .program-size;
@@ -60,14 +64,14 @@ module _ (i : Input) (permitted : Permitted i) (height extHeight : ℕ) (state :
   unfolding execRowOf
   row-is s = refl
 
-  state-of-row : (r : ℕ) → r < height → rowState (writtenExec i height state) r ≡ state r
+  state-of-row : (r : ℕ) → r < height → rowState exec r ≡ state r
   state-of-row r h = ap (λ (x : Exec). stateOf x) (exec-read writable r h) ∙ row-is (state r)
 
-  -- they have H and K rows, row r's pc and fp are the run's state r, and the last row stays
-  pub converse-tables : TablesOf i height extHeight state (writtenExec i height state) (writtenExt i height extHeight state)
-  converse-tables =
+  pub converse : WrittenAs i height extHeight state exec ext
+  converse =
       let some = many-steps legal in
       record {
+        accepted = written-accepted;
         rows = exec-length (machine i) state height;
         ext-rows = ext-length (machine i) state height extHeight;
         states = state-of-row;

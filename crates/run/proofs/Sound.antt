@@ -8,20 +8,18 @@ use native.Mathlib.Numerals.{add-one}
 use native.Mathlib.Omega.{arith}
 use lib.ListN.{length}
 use Rattle.word.specs.Word.{IsWord}
-use Rattle.answer.specs.declared.Answer.the-variants.{Accepted}
 use Rattle.machine.specs.Step.{step, goes}
 use Rattle.machine.specs.Run.{StayingRun}
 use Rattle.rules.specs.Given.{next}
 use Rattle.rules.specs.Sizes.{givenOf, tablesOf}
 use Rattle.rules.specs.Satisfies.{Satisfies}
-use Rattle.judge_spec.specs.Judged.{judgeOf}
 use Rattle.judge_spec.proofs.Exactly.{accepted-satisfies}
 use Rattle.judge_spec.proofs.Lengths.{whole}
 use Rattle.run_steps.specs.Setting.{ExecWords}
 use Rattle.run_steps.proofs.Legal.{same-state}
 use Rattle.run_steps.proofs.Sound.{row-steps, row-pushes}
 use Rattle.run_groups.proofs.Pairs.{next-inner, next-last}
-use Rattle.run.specs.Runs.{Input, withTables, machine, startOf, Permitted, rowsIn, lastRow, rowState, LegalRun}
+use Rattle.run.specs.Runs.{Input, JudgeAccepts, withTables, machine, startOf, Permitted, rowsIn, lastRow, rowState, LegalRun}
 use Rattle.run.proofs.Words.{exec-words, fit, ext-table, some-rows}
 use Rattle.run.proofs.Memory.{memory-holds}
 
@@ -48,7 +46,7 @@ module _ (i : Input) (exec ext : List ℕ) (s : Satisfies (withTables i exec ext
         stays = steps-to (lastRow exec) (lastRow exec) (omega arith) (omega arith) (next-last (rowsIn exec) (lastRow exec) (omega arith));
       }
 
-module _ (i : Input) (exec ext : List ℕ) (accepted : judgeOf (withTables i exec ext) ≡ Accepted) where
+module _ (i : Input) (exec ext : List ℕ) (accepted : JudgeAccepts i exec ext) where
   s : Satisfies (withTables i exec ext)
   s = accepted-satisfies (withTables i exec ext) accepted
 

@@ -26,13 +26,12 @@ use Rattle.answer.specs.declared.Answer.the-variants.{
 }
 use Rattle.machine.specs.Machine.{State}
 use Rattle.tables.specs.Rows.{stateAt}
-use Rattle.judge_spec.specs.Judged.{judgeOf}
 use Rattle.tabler_spec.specs.Tabled.{heldAfter}
 use Rattle.run_tables.proofs.Runs.{state-is, filled-same, before-last, own-run}
-use Rattle.run.specs.Runs.{Input, withTables, machine, startOf, Permitted, LegalRun, Spare, TablesOf, rowsIn, extRowsIn, writtenExec, writtenExt}
+use Rattle.run.specs.Runs.{Input, JudgeAccepts, machine, startOf, Permitted, LegalRun, Spare, WrittenAs, rowsIn, extRowsIn, writtenExec, writtenExt}
 use Rattle.run.specs.Tabler.{answerFor, execLeft, extLeft, Tells}
 use Rattle.run.proofs.Agree.{many-steps}
-use Rattle.run.proofs.Converse.{converse, converse-tables}
+use Rattle.run.proofs.Converse.{converse}
 use Rattle.run.proofs.Telling.{tells-exactly}
 
 module _ (i : Input) (permitted : Permitted i) (height extHeight : ℕ) (state : ℕ → State) (legal : LegalRun i height state)
@@ -78,23 +77,26 @@ module _ (i : Input) (permitted : Permitted i) (height extHeight : ℕ) (state :
       rw (run-accepted, same, ext-same)
 
   -- and what it leaves is accepted, and is that run's
-  pub left-accepted : judgeOf (withTables i (execLeft i exec ext) (extLeft i exec ext)) ≡ Accepted
-  left-accepted = rw (exec-left, ext-left) (converse i permitted height extHeight own own-legal own-spare)
-
-  pub left-tables : TablesOf i height extHeight state (execLeft i exec ext) (extLeft i exec ext)
-  left-tables =
-      let t = converse-tables i permitted height extHeight own own-legal own-spare in
+  pub run-left : WrittenAs i height extHeight state (execLeft i exec ext) (extLeft i exec ext)
+  run-left =
+      let t = converse i permitted height extHeight own own-legal own-spare in
       let is = state-is (before-last (legal .run)) in
       rw (exec-left, ext-left)
-      (record { rows = t .rows; ext-rows = t .ext-rows; states = λ r h. t .states r h ∙ is r (omega arith); stays = t .stays })
+      (record {
+        accepted = t .accepted;
+        rows = t .rows;
+        ext-rows = t .ext-rows;
+        states = λ r h. t .states r h ∙ is r (omega arith);
+        stays = t .stays;
+      })
 
 module _ (i : Input) (exec ext : List ℕ) where
   -- for every input and pair of buffers: the very bytes that it left are accepted
-  pub own-bytes : answerFor i exec ext ≡ Accepted → judgeOf (withTables i (execLeft i exec ext) (extLeft i exec ext)) ≡ Accepted
+  pub own-bytes : answerFor i exec ext ≡ Accepted → JudgeAccepts i (execLeft i exec ext) (extLeft i exec ext)
   unfolding Tells
   own-bytes e =
       let x = tells-exactly i exec ext Accepted .0 e in
-      left-accepted i (x .permitted) (x .height) (x .extHeight) (x .state) (x .legal) (x .spare) exec ext (x .rows) (x .ext-rows)
+      run-left i (x .permitted) (x .height) (x .extHeight) (x .state) (x .legal) (x .spare) exec ext (x .rows) (x .ext-rows) .accepted
 
   -- verdicts 1 to 4 change no buffer
   kept : (a : Answer) (old written : List ℕ) → 1 ≤ numbersOf a .verdict → numbersOf a .verdict ≤ 4 → heldAfter a old written ≡ old

@@ -7,6 +7,7 @@ use mathlib.Core.List.{List}
 use lib.Dec.{T}
 use lib.ListN.{length}
 use Rattle.word.specs.Word.{IsWord}
+use Rattle.answer.specs.declared.Answer.the-variants.{Accepted}
 use Rattle.form.specs.Form.{wellFormed}
 use Rattle.rows.specs.Rows.{execAt}
 use Rattle.machine.specs.Machine.{Machine, State}
@@ -14,6 +15,7 @@ use Rattle.machine.specs.Step.{goes, step}
 use Rattle.machine.specs.Run.{StayingRun}
 use Rattle.rules.specs.Sizes.{Parts, programFits, memoryFits, execFits, extFits, given}
 use Rattle.rules.specs.Satisfies.{Words}
+use Rattle.judge_spec.specs.Judged.{judgeOf}
 use Rattle.tables.specs.Machine.{machineOf}
 use Rattle.tables.specs.Groups.{filled}
 use Rattle.tables.specs.Bytes.{execTable, extTable}
@@ -25,10 +27,13 @@ pub record Input : Type 0 where
   pub pc : ℕ
   pub fp : ℕ
 
--- it, and two tables: what the judge is handed
+-- it, and two tables: what the judge is handed, and that it accepts them
 abbrev pub withTables : Input → List ℕ → List ℕ → Parts
 withTables i exec ext =
     record { program = i .program; memory = i .memory; exec = exec; ext = ext; pc = i .pc; fp = i .fp }
+
+abbrev pub JudgeAccepts : Input → List ℕ → List ℕ → Type 0
+JudgeAccepts i exec ext = judgeOf (withTables i exec ext) ≡ Accepted
 
 abbrev pub machine : Input → Machine
 machine i = machineOf (i .program) (i .memory)
@@ -69,14 +74,16 @@ pub record Spare (i : Input) (height extHeight : ℕ) (state : ℕ → State) : 
   pub permitted : T (extFits (120 * extHeight))
   pub room : filled (machine i) state height + 1 ≤ extHeight
 
--- tables of H and K rows that are the run's: row r's pc and fp are its state r, and the last row stays
-pub record TablesOf (i : Input) (height extHeight : ℕ) (state : ℕ → State) (exec ext : List ℕ) : Type 0 where
+-- a run is written as these tables: they are accepted, and they are that run's. They have H and K rows, row r's pc and
+-- fp are the run's state r, and the last row stays
+pub record WrittenAs (i : Input) (height extHeight : ℕ) (state : ℕ → State) (exec ext : List ℕ) : Type 0 where
+  pub accepted : JudgeAccepts i exec ext
   pub rows : length exec ≡ 32 * height
   pub ext-rows : length ext ≡ 120 * extHeight
   pub states : (r : ℕ) → r < height → rowState exec r ≡ state r
   pub stays : step (machine i) (rowState exec (height - 1)) ≡ goes (rowState exec (height - 1))
 
--- the two tables written for a run
+-- the two tables of a run, as bytes
 abbrev pub writtenExec : Input → ℕ → (ℕ → State) → List ℕ
 writtenExec i height state = execTable (machine i) state height
 
