@@ -1,6 +1,7 @@
 -- Demand 3's words: a program, a memory and a start that are permitted, the machine they make, a legal run of H steps
 -- that stays and leaves a spare extension row, and tables that are that run's. Document 01, "Layouts", "The machine,
 -- without flags", "The tabler".
+-- Declared in src/: Answer (answer).
 use mathlib.Core.Path.{_≡_}
 use Prim.Native.Nat.{ℕ, _+_, _-_, _*_, _/_, _<_, _≤_}
 use mathlib.Core.List.{List}

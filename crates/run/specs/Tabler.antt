@@ -78,17 +78,17 @@ pub record LegalTo (m : Machine) (start : State) (extHeight n : ℕ) (state : �
   pub room : filled m state n + 1 ≤ extHeight
 
 module _ (i : Input) (exec ext : List ℕ) where
-  abbrev handed : Parts
-  handed = withTables i exec ext
+  abbrev allParts : Parts
+  allParts = withTables i exec ext
 
   -- 2 WORD, of program and memory: the tables' old bytes are not tested
   pub record TablerWord (n k : ℕ) : Type 0 where
-    pub bad : BadWord handed n k
+    pub bad : BadWord allParts n k
     pub part : n ≤ 2
 
   -- tests 1 and 2 passed
   pub record TablerTwo : Type 0 where
-    pub sizes : (m : ℕ) → T (partFits handed m)
+    pub sizes : (m : ℕ) → T (partFits allParts m)
     pub program-words : Words (i .program)
     pub memory-words : Words (i .memory)
 
@@ -156,7 +156,7 @@ module _ (i : Input) (exec ext : List ℕ) where
   -- what an answer of the tabler says; the verdicts 5 to 8, 12 and 13 are not the tabler's
   unfoldable pub Tells : Answer → Type 0
   Tells Accepted = AcceptedRun
-  Tells (Size n place) = BadSize handed n place
+  Tells (Size n place) = BadSize allParts n place
   Tells (Word n k) = TablerWord n k
   Tells (Instruction k) = TablerInstruction k
   Tells Start = TablerStart

@@ -1,0 +1,4 @@
+pub mod Numbers
+pub mod Effects
+pub mod Driver
+pub mod Mission
