@@ -23,7 +23,7 @@ EDITS = [
     ("extension rule 16 dropped", RULES + "Extension.antt", r"rule 16 \(.*\)$", "rule 16 (zero? 0)"),
     ("extension rule 17 dropped", RULES + "Extension.antt", r"rule 17 \(.*\)$", "rule 17 (zero? 0)"),
     ("execution rule 12 dropped", RULES + "Execution.antt", r"rule 12 \(.*\)$", "rule 12 (zero? 0)"),
-    ("the bus reduced to equal totals", RULES + "Bus.antt", r"^sameTuple s t = .*$", "sameTuple s t = true"),
+    ("the bus reduced to equal totals", RULES + "Bus.antt", r"cond \(sameTuple \(.*\) σ\) \((.*)\) 0\) n$", r"\1) n"),
     ("the last row wrapped to row 0", RULES + "Given.antt", r"^next n r = .*$", "next n r = cond (ltb (r + 1) n) (r + 1) 0"),
     ("padding with comp 0", "crates/tables/specs/Groups.antt", r"(?s)(padding cell =.*?)comp = elementAt cell 0", r"\1comp = 0 ∷ 0 ∷ 0 ∷ 0 ∷ 0 ∷ []"),
     ("C not read on an untaken jump", "crates/machine/specs/Step.antt", r"asked 4 \(legal m s \(f \.c\)\)", "asked 4 (legalC m s f (f .kind))"),
@@ -49,7 +49,6 @@ EDITS = [
 
 # what an edit needs beside it
 EXTRA = {
-    "the bus reduced to equal totals": (RULES + "Bus.antt", "use mathlib.Core.Bool.{Bool,", "use mathlib.Core.Bool.{Bool, true,"),
     "padding with comp 0": ("crates/tables/specs/Groups.antt", "use mathlib.Core.Bool.", "use mathlib.Core.List.{[], _∷_}\nuse mathlib.Core.Bool."),
     "C not read on an untaken jump": (
         "crates/machine/specs/Step.antt",

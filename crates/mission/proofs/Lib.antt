@@ -1,4 +1,5 @@
 pub mod Numbers
 pub mod Effects
 pub mod Driver
+pub mod Contracts
 pub mod Mission

@@ -17,8 +17,8 @@ use Rattle.judge_spec.specs.Refusal.{Says}
 abbrev pub numbersIn : List ℕ → Numbers
 numbersIn buffer = record { verdict = wordAt buffer 0; part = wordAt buffer 4; place = wordAt buffer 8; rule = wordAt buffer 12 }
 
--- the number returned and the buffer after the call tell one answer, the one that holds of the four parts and the start;
--- and the number is 0 exactly where the tables satisfy the constraints of draft 0.6.0
+-- the number returned and the buffer after the call tell one answer, the one that holds of the four parts and the
+-- start; and the number is 0 exactly where the tables satisfy the constraints of draft 0.6.0
 pub record DriverReads (q : Parts) (number : ℕ) (buffer : List ℕ) : Type 0 where
   pub answer : Answer
   pub says : Says q answer

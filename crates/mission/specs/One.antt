@@ -1,9 +1,10 @@
 -- The mission, demand 1: "Nothing handed in may crash it, hang it or be trusted. Program, memory, tables, labels and
 -- start state are judged by the entry that receives them; each refusal has one number, one place and one stated effect
 -- on the buffers." Document 01, "Verdicts" and "What the contracts owe".
--- A proved function neither crashes nor hangs, and an entry has no `requires` (tests/contracts.py): so far no theorem is
--- needed. What is left is here: every promise admits one outcome, the four numbers name one answer, and what each
--- refusal does to the buffers. What a refusal says is demand 2 for the judge, demand 3 for the tabler.
+-- That nothing crashes or hangs is what a proved function means, and an entry has no `requires` (tests/contracts.py),
+-- so it takes whatever is handed in. What is left is here: each promise admits one outcome, four numbers name one
+-- answer, and what each refusal does to the buffers. What a refusal says, and so its one place, is demand 2 for judge
+-- and label, demand 3 for the tabler.
 -- Declared in src/: Answer (answer); Recipe, Reading (label).
 use mathlib.Core.Path.{_≡_}
 use mathlib.Core.Logic.{_⊎_}

@@ -1,5 +1,6 @@
--- The mission speaks of entries; document 01, "What the contracts owe". Each entry's promise, as its source states it
--- over what is handed in: what outcomes keep it. An outcome is the answer beside each lent buffer at return.
+-- The mission speaks of entries; document 01, "What the contracts owe". Each entry's promise over what is handed in:
+-- what outcomes keep it. An outcome is the answer beside each lent buffer at return. That these are the promises of the
+-- sources is proved too, but for the programs (proofs/Contracts).
 -- Declared in src/: Answer (answer); Recipe, Reading, Written (label).
 use mathlib.Core.Path.{_≡_}
 use mathlib.Core.List.{List}

@@ -9,7 +9,7 @@
 -- `JudgeAccepts i exec ext`: the judge's answer to all of it is ACCEPTED. `LegalRun i H state`: H is permitted, state 0
 -- is the start, each state steps legally to the next, and the last one, H - 1, to itself. `Spare i H K state`: K is
 -- permitted, and the run's extension lengths plus 1 are at most K. `Permitted i`: verdicts 1 to 4 find no fault in it.
--- `WrittenAs i H K state exec ext`: tables of H and K rows, accepted; row r's pc and fp are state r; the last row stays.
+-- `WrittenAs i H K state exec ext`: tables of H and K rows, accepted; row r's pc and fp are state r; the last stays.
 -- `answerFor i exec ext`, `execLeft` and `extLeft` are what `tabler::table` promises for two buffers: its answer, and
 -- the very bytes that it leaves in them. `Tells` says for each of its verdicts what document 01's table has.
 -- Declared in src/: Answer (answer).
