@@ -10,8 +10,10 @@
 -- is the start, each state steps legally to the next, and the last one, H - 1, to itself. `Spare i H K state`: K is
 -- permitted, and the run's extension lengths plus 1 are at most K. `Permitted i`: verdicts 1 to 4 find no fault in it.
 -- `WrittenAs i H K state exec ext`: tables of H and K rows, accepted; row r's pc and fp are state r; the last stays.
+-- `writtenExec` and `writtenExt` are the tables of a run ("The tabler").
 -- `answerFor i exec ext`, `execLeft` and `extLeft` are what `tabler::table` promises for two buffers: its answer, and
--- the very bytes that it leaves in them. `Tells` says for each of its verdicts what document 01's table has.
+-- the very bytes that it leaves in them. `Tells` says for each of its verdicts what document 01's table has. `reasons`
+-- are what a step is asked, in STUCK's order, and `FirstFailing` is the first of a list that fails.
 -- Declared in src/: Answer (answer).
 use mathlib.Core.Path.{_≡_}
 use mathlib.Core.Logic.{_↔_}
@@ -30,9 +32,10 @@ use Rattle.run.specs.Tabler.{answerFor, execLeft, extLeft, reasons, Tells}
 pub record DemandThree : Type 0 where
   -- an accepted table is a run: every execution row is a legal step, and the last row stays where it is
   pub accepted-is-run : (i : Input) (exec ext : List ℕ) → JudgeAccepts i exec ext → LegalRun i (rowsIn exec) (rowState exec)
-  -- and one run: no other legal run of that height starts there
+  -- and one run: any legal run from that start, of whatever height, has the states of its rows
   pub accepted-is-one-run : (i : Input) (exec ext : List ℕ) → JudgeAccepts i exec ext
-      → (state : ℕ → State) → LegalRun i (rowsIn exec) state → (r : ℕ) → r < rowsIn exec → state r ≡ rowState exec r
+      → (height : ℕ) (state : ℕ → State) → LegalRun i height state
+      → (r : ℕ) → r < height → r < rowsIn exec → state r ≡ rowState exec r
   -- two accepted tables agree: the same state on each row both have, and the longer repeats the other's last
   pub two-agree : (i : Input) (exec ext other otherExt : List ℕ) → JudgeAccepts i exec ext → JudgeAccepts i other otherExt → Agree exec other
   -- each legal run that ends so, of a permitted height and with one spare extension row, is written as accepted tables
@@ -55,6 +58,6 @@ pub record DemandThree : Type 0 where
   -- the tabler gives an answer exactly where what the answer tells is so, STUCK, ROOM and OPEN among them; one alone is
   pub tabler-answers-exactly : (i : Input) (exec ext : List ℕ) (a : Answer) → (answerFor i exec ext ≡ a) ↔ Tells i exec ext a
   pub tabler-answers-once : (i : Input) (exec ext : List ℕ) (a b : Answer) → Tells i exec ext a → Tells i exec ext b → a ≡ b
-  -- a step is stuck for the first reason, in document 01's order, that holds of it, and legal exactly where none does
+  -- a step is stuck by the first thing it is asked, in document 01's order, that fails, and legal where nothing does
   pub stuck-first : (m : Machine) (s : State) (reason : ℕ) → (step m s ≡ stuck reason) ↔ FirstFailing (reasons m s) reason
   pub legal-step : (m : Machine) (s : State) → ((t : State) × (step m s ≡ goes t)) ↔ All (reasons m s)

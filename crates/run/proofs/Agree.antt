@@ -36,9 +36,9 @@ many-steps {height} legal =
     omega arith
 
 module _ (i : Input) (exec ext : List ℕ) (accepted : JudgeAccepts i exec ext) where
-  -- any legal run of the table's height has the states of its rows
-  pub one-run : (state : ℕ → State) → LegalRun i (rowsIn exec) state → (r : ℕ) → r < rowsIn exec → state r ≡ rowState exec r
-  one-run state legal r h = agree-on (legal .run) (sound i exec ext accepted .run) r (omega arith) (omega arith)
+  -- any legal run, of whatever height, has the states of its rows
+  pub one-run : (height : ℕ) (state : ℕ → State) → LegalRun i height state → (r : ℕ) → r < height → r < rowsIn exec → state r ≡ rowState exec r
+  one-run height state legal r h l = agree-on (legal .run) (sound i exec ext accepted .run) r (omega arith) (omega arith)
 
   -- two accepted tables, of whatever heights and with whatever extension tables
   pub agree : (other otherExt : List ℕ) → JudgeAccepts i other otherExt → Agree exec other
