@@ -27,6 +27,8 @@ EDITS = [
     ("the last row wrapped to row 0", RULES + "Given.antt", r"^next n r = .*$", "next n r = cond (ltb (r + 1) n) (r + 1) 0"),
     ("padding with comp 0", "crates/tables/specs/Groups.antt", r"(?s)(padding cell =.*?)comp = elementAt cell 0", r"\1comp = 0 ∷ 0 ∷ 0 ∷ 0 ∷ 0 ∷ []"),
     ("C not read on an untaken jump", "crates/machine/specs/Step.antt", r"asked 4 \(legal m s \(f \.c\)\)", "asked 4 (legalC m s f (f .kind))"),
+    ("a bad condition told as a false equation", "crates/machine/specs/Step.antt", r"asked 6 \(", "asked 5 ("),
+    ("the extension's cells told as its result", "crates/machine/specs/Step.antt", r"asked 7 \(", "asked 8 ("),
     (
         "STUCK and ROOM in the other order",
         TABLED,
