@@ -14,6 +14,7 @@ ROOT = pathlib.Path(__file__).resolve().parent.parent
 SCRATCH = ROOT / "target/mutate"
 RULES = "crates/rules/specs/"
 TABLED = "crates/tabler_spec/specs/Tabled.antt"
+ROOM = r"&& leb \(filled m state \(suc r\) \+ 1\) extHeight$"
 
 # name, file, what stands there (a line's start, or a piece of it), what is put there
 EDITS = [
@@ -38,15 +39,20 @@ EDITS = [
     ("STUCK at the row after", TABLED, r"= Stuck r rule$", "= Stuck (suc r) rule"),
     ("STUCK for a made-up reason", TABLED, r"= Stuck r rule$", "= Stuck r (suc rule)"),
     ("STUCK leaves the old bytes", TABLED, r"^heldAfter \(Stuck row rule\) old written = .*$", "heldAfter (Stuck row rule) old written = old"),
-    ("ROOM asks no spare row", TABLED, r"&& leb \(filled m state \(suc r\) \+ 1\) extHeight$", "&& leb (filled m state (suc r)) extHeight"),
-    ("ROOM tested before the row's group is counted", TABLED, r"&& leb \(filled m state \(suc r\) \+ 1\) extHeight$", "&& leb (filled m state r + 1) extHeight"),
+    ("ROOM asks no spare row", TABLED, ROOM, "&& leb (filled m state (suc r)) extHeight"),
+    ("ROOM tested before the row's group is counted", TABLED, ROOM, "&& leb (filled m state r + 1) extHeight"),
     ("ROOM leaves the old bytes", TABLED, r"^heldAfter \(Room row\) old written = .*$", "heldAfter (Room row) old written = old"),
     ("OPEN after the last row", TABLED, r"\(Open \(height - 1\)\)", "(Open height)"),
     ("OPEN leaves the old bytes", TABLED, r"^heldAfter \(Open row\) old written = .*$", "heldAfter (Open row) old written = old"),
     ("ACCEPTED where the last step keeps pc alone", TABLED, r"^sameState s t = .*$", "sameState s t = eqb (s .pc) (t .pc)"),
     ("ACCEPTED with a start fp at or above p", TABLED, r"cond \(ltb pc p && ltb fp p\)", "cond (ltb pc p)"),
     ("ACCEPTED leaves the old bytes", TABLED, r"^heldAfter Accepted old written = .*$", "heldAfter Accepted old written = old"),
-    ("ACCEPTED leaves the tables of a run a row shorter", TABLED, r"exec \(execTable m state \(length exec / 32\)\)", "exec (execTable m state (length exec / 32 - 1))"),
+    (
+        "ACCEPTED leaves the tables of a run a row shorter",
+        TABLED,
+        r"exec \(execTable m state \(length exec / 32\)\)",
+        "exec (execTable m state (length exec / 32 - 1))",
+    ),
 ]
 
 # what an edit needs beside it
