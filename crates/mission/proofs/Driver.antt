@@ -22,7 +22,7 @@ use Rattle.mission.specs.Driver.{numbersIn, DriverReads}
 use Rattle.mission.proofs.Numbers.{verdict-zero}
 
 -- numbers below 2^32 read back from their 16 bytes
-numbers-back : (a : Answer) → Narrow (numbersOf a) → numbersIn (bytesOfWords (answerWords a)) ≡ numbersOf a
+pub numbers-back : (a : Answer) → Narrow (numbersOf a) → numbersIn (bytesOfWords (answerWords a)) ≡ numbersOf a
 unfolding bytesOfWords
 numbers-back a n =
     λ i.

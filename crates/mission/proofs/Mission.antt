@@ -22,6 +22,7 @@ use Rattle.mission.specs.Three.{DemandThree}
 use Rattle.mission.proofs.Numbers.{one-number}
 use Rattle.mission.proofs.Effects.{maker-keeps, writer-keeps, reader-zeroes, judge-call-answer, reader-call-answer, reader-call-keeps}
 use Rattle.mission.proofs.Driver.{driver-reads}
+use Rattle.mission.proofs.LabelDriver.{driver-reads-label}
 
 pub demand-one : DemandOne
 demand-one =
@@ -55,6 +56,7 @@ demand-two =
       accepted-exactly = λ q. (accepted-satisfies q, satisfies-accepted q);
       answers-exactly = says-exactly;
       driver-reads = driver-reads;
+      driver-reads-label = driver-reads-label;
       label-written =
           λ r buffer inside room.
           let e = enough r buffer (inside .ranges) room in

@@ -23,8 +23,8 @@ use Rattle.rules.specs.Sizes.{Parts}
 use Rattle.rules.specs.Satisfies.{Satisfies}
 use Rattle.judge_spec.specs.Judged.{judgeOf}
 use Rattle.judge_spec.specs.Refusal.{Says}
-use Rattle.mission.specs.Promises.{JudgeCall}
-use Rattle.mission.specs.Driver.{DriverReads}
+use Rattle.mission.specs.Promises.{JudgeCall, ReaderCall}
+use Rattle.mission.specs.Driver.{DriverReads, DriverReadsLabel}
 
 pub record DemandTwo : Type 0 where
   -- a table is accepted exactly when it satisfies the constraints
@@ -33,6 +33,10 @@ pub record DemandTwo : Type 0 where
   pub answers-exactly : (q : Parts) (a : Answer) → (judgeOf q ≡ a) ↔ Says q a
   -- and so for a driver in C, from what `uisnabar_judge` promises
   pub driver-reads : (q : Parts) (buffer : List ℕ) (x : ℕ × List ℕ) → length buffer ≡ 16 → JudgeCall q buffer x → DriverReads q (x .0) (x .1)
+  -- a driver reads a label as the reader does, from what `uisnabar_label` promises
+  pub driver-reads-label : (text answer recipe : List ℕ) (x : ℕ × List ℕ × List ℕ) → length answer ≡ 16 → length recipe ≡ 16
+      → ReaderCall text answer recipe x
+      → DriverReadsLabel text (x .0) (x .1) (x .2)
   -- a recipe is written as one label, and the bytes after it keep what they held
   pub label-written : (r : Recipe) (buffer : List ℕ) → InRange r → length (labelOf r) ≤ length buffer
       → (written r (length buffer) ≡ record { answer = Accepted; length = length (labelOf r) })
