@@ -1,26 +1,24 @@
 -- Every answer of the judge holds: no row, word or rule number is made up, and an acceptance is a proof that the tables
 -- satisfy the constraints. Read from the last test to the first: given that the tests before passed, the answer from a
 -- test on is right.
-use mathlib.Core.Path.{_≡_, refl}
+use mathlib.Core.Path.{refl}
 use mathlib.Core.Logic.{inl, inr}
-use mathlib.Core.Bool.{false, cond}
-use Prim.Native.Nat.{ℕ, suc, _/_, _<_}
+use Prim.Native.Nat.{ℕ, _<_}
 use native.Mathlib.Omega.{arith}
 use lib.Dec.{T}
-use lib.ListN.{length}
-use Rattle.answer.specs.declared.Answer.{Answer}
-use Rattle.answer.specs.declared.Answer.the-variants.{Accepted, Size, Word, Instruction, Exec as ExecRefused, Extension, Bus}
+use Rattle.answer.specs.declared.Answer.the-variants.{Accepted, Instruction, Exec as ExecRefused, Extension, Bus}
 use Rattle.rules.specs.Given.{Given, Tables}
 use Rattle.rules.specs.Bus.{pulled}
 use Rattle.rules.specs.Sizes.{Parts, givenOf, tablesOf}
 use Rattle.rules.specs.Satisfies.{Words, Satisfies}
 use Rattle.judge_spec.specs.Judged.{words, execFailing, extFailing, pushedAt, judgeOf}
 use Rattle.judge_spec.specs.Refusal.{part, partFits, PassedTwo, PassedThree, PassedFour, PassedFive, PassedSix, Equal, Pushes, Pulls, Says}
-use Rattle.judge_spec.proofs.PartNumbers.{one-more, every-from}
+use Rattle.judge_spec.proofs.PartNumbers.{every-from}
+use Rattle.judge_spec.proofs.PartTests.{no-words, words-cases, sizes-cases}
 use Rattle.judge_spec.proofs.Stages.{judgePulls, judgeBus, judgeExtension, judgeExecution, judgeStart, judgeProgram, judgeWords}
 use Rattle.judge_spec.proofs.BusLaws.{bus-equal}
-use Rattle.judge_spec.proofs.Cases.{chosen, tested}
-use Rattle.judge_spec.proofs.StageReads.{words-read, instructions-read, exec-read, ext-read, push-read, pull-read, start-cases}
+use Rattle.judge_spec.proofs.Cases.{tested}
+use Rattle.judge_spec.proofs.StageReads.{instructions-read, exec-read, ext-read, push-read, pull-read, start-cases}
 
 module _ (q : Parts) where
   abbrev g : Given
@@ -94,41 +92,17 @@ module _ (q : Parts) where
       (λ all. from-start (record { two = x; instructions = all }))
       (λ i h before bad. record { two = x; before = before; inside = h; bad = bad })
 
-  -- the words of part n, whose tests of the parts before passed, with the next test's answer
-  from-words : ((m : ℕ) → T (partFits q m)) → (n : ℕ) (then : Answer)
-      → (((m : ℕ) → m < suc n → Words (part q m)) → Says q then)
-      → ((m : ℕ) → m < n → Words (part q m)) → Says q (words n (part q n) then)
-  unfolding Says
-  from-words sized n then pass earlier =
-      tested (words-read (part q n)) (length (part q n) / 4) (Word n) then (Says q)
-      (λ w. pass (one-more (λ m. Words (part q m)) n earlier w))
-      (λ k h before bad. record { sizes = sized; parts-before = earlier; before = before; inside = h; bad = bad })
-
   from-part-1 : ((m : ℕ) → T (partFits q m)) → Says q (judgeWords q)
-  from-part-1 sized =
-      from-words sized 1 _
-      (from-words sized 2 _
-      (from-words sized 3 _
-      (from-words sized 4 _
-      (λ all. from-instructions (record { sizes = sized; words = every-from (λ m. Words (part q m)) all (λ m k h. absurd (omega arith)) })))))
-      (one-more (λ m. Words (part q m)) 0 (λ m h. absurd (omega arith)) (λ k h. absurd (omega arith)))
-
-  -- the length of part n, where those of the parts before are right
-  bad-size : (n : ℕ) → ((m : ℕ) → m < n → T (partFits q m)) → partFits q n ≡ false → Says q (Size n 0)
   unfolding Says
-  bad-size n earlier bad = record { before = earlier; bad = bad; unnamed = refl }
+  from-part-1 sized =
+      let test = words-cases q (Says q) sized in
+      test 1 _ (λ k x. x)
+      (test 2 _ (λ k x. x)
+      (test 3 _ (λ k x. x)
+      (test 4 _ (λ k x. x)
+      (λ all. from-instructions (record { sizes = sized; words = every-from (λ m. Words (part q m)) all (λ m k h. absurd (omega arith)) })))))
+      (no-words q)
 
   pub justified : Says q (judgeOf q)
-  unfolding judgeOf
-  justified =
-      from-size 1 _ (from-size 2 _ (from-size 3 _ (from-size 4 _
-      (λ all. from-part-1 (every-from (λ m. T (partFits q m)) all (λ m. tt))))))
-      (one-more (λ m. T (partFits q m)) 0 (λ m h. absurd (omega arith)) tt)
-    where
-      from-size : (n : ℕ) (then : Answer)
-          → (((m : ℕ) → m < suc n → T (partFits q m)) → Says q then)
-          → ((m : ℕ) → m < n → T (partFits q m)) → Says q (cond (partFits q n) then (Size n 0))
-      from-size n then pass earlier =
-          chosen (partFits q n) then (Size n 0) (Says q)
-          (λ t. pass (one-more (λ m. T (partFits q m)) n earlier t))
-          (bad-size n earlier)
+  unfolding judgeOf Says
+  justified = sizes-cases q (Says q) (judgeWords q) (λ n x. x) from-part-1

@@ -6,6 +6,8 @@ pub mod PartNumbers
 pub mod Stages
 pub mod BusLaws
 pub mod StageReads
+pub mod PartTests
 pub mod Justified
+pub mod Narrow
 pub mod Only
 pub mod Exactly

@@ -2,12 +2,10 @@
 -- test's, and that one refuses as said.
 use mathlib.Core.Path.{_≡_, sym, ap, _∙_, subst}
 use mathlib.Core.Logic.{inl, inr}
-use mathlib.Core.Bool.{true≢false}
 use mathlib.Core.List.{List}
-use Prim.Native.Nat.{ℕ, zero, suc, _/_, _<_}
+use Prim.Native.Nat.{ℕ, zero, suc, _<_}
 use native.Mathlib.Omega.{arith}
 use lib.Dec.{T}
-use lib.ListN.{length}
 use Rattle.answer.specs.declared.Answer.{Answer}
 use Rattle.answer.specs.declared.Answer.the-variants.{Accepted, Size, Word, Instruction, Start, Exec as ExecRefused, Extension, Bus, Label, Stuck, Room, Open, Itself, Buffer}
 use Rattle.rules.specs.Given.{Given, Tables, Rule}
@@ -15,13 +13,14 @@ use Rattle.rules.specs.Bus.{pulled}
 use Rattle.rules.specs.Sizes.{Parts, givenOf, tablesOf}
 use Rattle.rules.specs.Satisfies.{Words, Satisfies}
 use Rattle.judge_spec.specs.First.{failing}
-use Rattle.judge_spec.specs.Judged.{words, execRulesAt, execFailing, extRulesAt, extFailing, pushedAt, judgeOf}
+use Rattle.judge_spec.specs.Judged.{execRulesAt, execFailing, extRulesAt, extFailing, pushedAt, judgeOf}
 use Rattle.judge_spec.specs.Refusal.{FirstFailing, Equal, Pushes, part, partFits, BadSize, BadWord, BadExec, BadExtension, BadPush, BadPull, PassedTwo, PassedThree, PassedFour, PassedFive, PassedSix, Says}
 use Rattle.judge_spec.proofs.PartNumbers.{every}
 use Rattle.judge_spec.proofs.Stages.{judgePulls, judgeBus, judgeExtension, judgeExecution, judgeStart, judgeProgram, judgeWords}
 use Rattle.judge_spec.proofs.RuleLaws.{first-failing}
-use Rattle.judge_spec.proofs.Cases.{passed, failed, untouched, refusing}
-use Rattle.judge_spec.proofs.StageReads.{words-read, instructions-read, exec-read, ext-read, push-read, pull-read, start-pass, start-fail}
+use Rattle.judge_spec.proofs.Cases.{untouched, refusing}
+use Rattle.judge_spec.proofs.PartTests.{words-pass, word-at, sizes-pass, size-refused}
+use Rattle.judge_spec.proofs.StageReads.{instructions-read, exec-read, ext-read, push-read, pull-read, start-pass, start-fail}
 
 module _ (q : Parts) where
   abbrev g : Given
@@ -33,13 +32,7 @@ module _ (q : Parts) where
   -- the judge's answer where the tests before a test passed
   sized : ((m : ℕ) → T (partFits q m)) → judgeOf q ≡ judgeWords q
   unfolding judgeOf
-  sized s = passed (partFits q 1) _ _ (s 1) ∙ passed (partFits q 2) _ _ (s 2) ∙ passed (partFits q 3) _ _ (s 3) ∙ passed (partFits q 4) _ _ (s 4)
-
-  words-pass : (n : ℕ) (bytes : List ℕ) (then : Answer) → Words bytes → words n bytes then ≡ then
-  words-pass n bytes then = untouched (words-read bytes) (length bytes / 4) (Word n) then
-
-  at : (n : ℕ) (then : Answer) {k : ℕ} → BadWord q n k → words n (part q n) then ≡ Word n k
-  at n then {k} x = refusing (words-read (part q n)) (length (part q n) / 4) (Word n) then k (x .inside) (x .before) (x .bad)
+  sized = sizes-pass q (judgeWords q)
 
   read : PassedTwo q → judgeOf q ≡ judgeProgram q
   read x =
@@ -88,35 +81,23 @@ module _ (q : Parts) where
       ∙ refusing (ext-read g t) (t .extHeight) (λ r. Extension r (extFailing g t r)) (judgeBus q) r (x .inside) (x .before) (named _ n (x .bad))
       ∙ ap (Extension r) (first-failing (extRulesAt g t r) n (x .bad))
 
-  size-refused : (n place : ℕ) → BadSize q n place → judgeOf q ≡ Size n 0
+  badly-sized : (n place : ℕ) → BadSize q n place → judgeOf q ≡ Size n 0
   unfolding judgeOf
-  size-refused zero place x = absurd (true≢false (x .bad))
-  size-refused (suc zero) place x = failed (partFits q 1) _ _ (x .bad)
-  size-refused (suc (suc zero)) place x = passed (partFits q 1) _ _ (x .before 1 (omega arith)) ∙ failed (partFits q 2) _ _ (x .bad)
-  size-refused (suc (suc (suc zero))) place x =
-      passed (partFits q 1) _ _ (x .before 1 (omega arith))
-      ∙ passed (partFits q 2) _ _ (x .before 2 (omega arith))
-      ∙ failed (partFits q 3) _ _ (x .bad)
-  size-refused (suc (suc (suc (suc zero)))) place x =
-      passed (partFits q 1) _ _ (x .before 1 (omega arith))
-      ∙ passed (partFits q 2) _ _ (x .before 2 (omega arith))
-      ∙ passed (partFits q 3) _ _ (x .before 3 (omega arith))
-      ∙ failed (partFits q 4) _ _ (x .bad)
-  size-refused (suc (suc (suc (suc (suc n))))) place x = absurd (true≢false (x .bad))
+  badly-sized = size-refused q (judgeWords q)
 
   word-refused : (n k : ℕ) → BadWord q n k → judgeWords q ≡ Word n k
   word-refused zero k x = absurd (omega (arith, x .inside))
-  word-refused (suc zero) k x = at 1 _ x
-  word-refused (suc (suc zero)) k x = words-pass 1 (q .program) _ (x .parts-before 1 (omega arith)) ∙ at 2 _ x
+  word-refused (suc zero) k x = word-at q 1 _ x
+  word-refused (suc (suc zero)) k x = words-pass 1 (q .program) _ (x .parts-before 1 (omega arith)) ∙ word-at q 2 _ x
   word-refused (suc (suc (suc zero))) k x =
       words-pass 1 (q .program) _ (x .parts-before 1 (omega arith))
       ∙ words-pass 2 (q .memory) _ (x .parts-before 2 (omega arith))
-      ∙ at 3 _ x
+      ∙ word-at q 3 _ x
   word-refused (suc (suc (suc (suc zero)))) k x =
       words-pass 1 (q .program) _ (x .parts-before 1 (omega arith))
       ∙ words-pass 2 (q .memory) _ (x .parts-before 2 (omega arith))
       ∙ words-pass 3 (q .exec) _ (x .parts-before 3 (omega arith))
-      ∙ at 4 _ x
+      ∙ word-at q 4 _ x
   word-refused (suc (suc (suc (suc (suc n))))) k x = absurd (omega (arith, x .inside))
 
   satisfied : Satisfies q → PassedSix q
@@ -138,7 +119,7 @@ module _ (q : Parts) where
   pub only : (a : Answer) → Says q a → judgeOf q ≡ a
   unfolding Says
   only Accepted x = accepted x
-  only (Size n place) x = size-refused n place x ∙ ap (Size n) (sym (x .unnamed))
+  only (Size n place) x = badly-sized n place x ∙ ap (Size n) (sym (x .unnamed))
   only (Word n k) x = sized (x .sizes) ∙ word-refused n k x
   only (Instruction i) x = read (x .two) ∙ refusing (instructions-read g t) (g .count) Instruction (judgeStart q) i (x .inside) (x .before) (x .bad)
   only Start x = formed (x .three) ∙ start-fail g t (q .pc) (q .fp) (judgeExecution q) (x .bad)

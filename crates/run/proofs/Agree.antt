@@ -1,20 +1,19 @@
 -- Demand 3, agree: two accepted tables over one program, memory and start have the same states on every row both have,
--- and the longer one repeats the other's last state.
+-- and the longer one repeats the other's last state. And an accepted table names one run: any legal run from that start
+-- has the states of its rows.
 -- Assumes nothing.
-use mathlib.Core.Path.{_≡_, sym, _∙_, ap, ap₂, subst₂}
-use mathlib.Core.List.{List, []}
-use Prim.Native.Nat.{ℕ, zero, suc, _+_, _≤_}
+use mathlib.Core.Path.{_≡_, sym, _∙_, ap}
+use mathlib.Core.List.{List}
+use Prim.Native.Nat.{ℕ, zero, suc, _+_, _-_, _*_, _≤_, _<_}
 use native.Mathlib.Nat.{add-zero, add-suc}
 use native.Mathlib.Omega.{arith}
-use Rattle.answer.specs.declared.Answer.the-variants.{Accepted}
 use Rattle.machine.specs.Machine.{Machine, State}
 use Rattle.machine.specs.Step.{step}
 use Rattle.machine.specs.Run.{StayingRun}
-use Rattle.rules.specs.Sizes.{Parts, givenOf}
-use Rattle.judge_spec.specs.Judged.{judgeOf}
-use Rattle.run_steps.specs.Setting.{machineIn}
+use Rattle.judge_spec.proofs.Lengths.{whole}
 use Rattle.run_steps.proofs.Legal.{one-successor}
-use Rattle.run.proofs.Sound.{startIn, rowState, lastRow, sound}
+use Rattle.run.specs.Runs.{Input, JudgeAccepts, rowsIn, rowState, LegalRun, Agree}
+use Rattle.run.proofs.Sound.{sound}
 
 module _ {m : Machine} {start : State} {k l : ℕ} {s t : ℕ → State} (one : StayingRun m start k s) (two : StayingRun m start l t) where
   -- a step has one next state
@@ -30,20 +29,27 @@ module _ {m : Machine} {start : State} {k l : ℕ} {s t : ℕ → State} (one : 
       rw (add-suc k d)
       (one-successor (two .steps (k + d) (omega arith)) (ap (step m) (repeats d (omega arith)) ∙ one .stays))
 
--- two accepted tables, of whatever heights and with whatever extension tables, over one program, memory and start
-module _ (q u : Parts) (program : q .program ≡ u .program) (memory : q .memory ≡ u .memory) (pc : q .pc ≡ u .pc) (fp : q .fp ≡ u .fp)
-    (first : judgeOf q ≡ Accepted) (second : judgeOf u ≡ Accepted) where
-  same-machine : machineIn (givenOf q) ≡ machineIn (givenOf u)
-  same-machine = ap₂ (λ (p m : List ℕ). machineIn (givenOf (record { program = p; memory = m; exec = []; ext = []; pc = 0; fp = 0 }))) program memory
+-- a permitted height is at least 256
+pub many-steps : {i : Input} {height : ℕ} {state : ℕ → State} → LegalRun i height state → 256 ≤ height
+many-steps {height} legal =
+    let h = whole (32 * height) 32 25 (legal .permitted) .number .least in
+    omega arith
 
-  same-start : startIn q ≡ startIn u
-  same-start = λ i. record { pc = pc i; fp = fp i }
+module _ (i : Input) (exec ext : List ℕ) (accepted : JudgeAccepts i exec ext) where
+  -- any legal run, of whatever height, has the states of its rows
+  pub one-run : (height : ℕ) (state : ℕ → State) → LegalRun i height state → (r : ℕ) → r < height → r < rowsIn exec → state r ≡ rowState exec r
+  one-run height state legal r h l = agree-on (legal .run) (sound i exec ext accepted .run) r (omega arith) (omega arith)
 
-  one : StayingRun (machineIn (givenOf u)) (startIn u) (lastRow q) (rowState q)
-  one = subst₂ (λ (m : Machine) (s : State). StayingRun m s (lastRow q) (rowState q)) same-machine same-start (sound q first)
-
-  pub agree : (r : ℕ) → r ≤ lastRow q → r ≤ lastRow u → rowState q r ≡ rowState u r
-  agree = agree-on one (sound u second)
-
-  pub longer-repeats : (d : ℕ) → lastRow q + d ≤ lastRow u → rowState u (lastRow q + d) ≡ rowState q (lastRow q)
-  longer-repeats = repeats one (sound u second)
+  -- two accepted tables, of whatever heights and with whatever extension tables
+  pub agree : (other otherExt : List ℕ) → JudgeAccepts i other otherExt → Agree exec other
+  agree other otherExt second =
+      let one = sound i exec ext accepted in
+      let two = sound i other otherExt second in
+      let some = many-steps one in
+      record {
+        rows = λ r h l. agree-on (one .run) (two .run) r (omega arith) (omega arith);
+        longer =
+            λ r h l.
+            let past : rowsIn exec - 1 + (r - (rowsIn exec - 1)) ≡ r = omega arith in
+            rw past at (repeats (one .run) (two .run) (r - (rowsIn exec - 1)) (omega arith));
+      }

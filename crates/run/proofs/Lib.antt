@@ -4,6 +4,8 @@ pub mod Sound
 pub mod Agree
 pub mod Converse
 pub mod Together
-pub mod Accepts
-pub mod Accepted
+pub mod Ending
+pub mod Told
+pub mod Telling
+pub mod Reasons
 pub mod Tabler

@@ -1,6 +1,6 @@
 -- Document 01, "The tabler" and "Verdicts" 10: a run of H legal steps that stays and has room, and its two tables.
 use mathlib.Core.Path.{_≡_}
-use Prim.Native.Nat.{ℕ, _+_, _-_, _*_, _≤_}
+use Prim.Native.Nat.{ℕ, suc, _+_, _-_, _*_, _≤_, _<_}
 use lib.Dec.{T}
 use lib.ListN.{length}
 use Rattle.word.specs.Word.{IsWord}
@@ -8,6 +8,7 @@ use Rattle.rules.specs.Given.{Given, Tables}
 use Rattle.rules.specs.Satisfies.{Words}
 use Rattle.rules.specs.Sizes.{Parts, programFits, memoryFits, execFits, extFits, givenOf}
 use Rattle.machine.specs.Machine.{Machine, State}
+use Rattle.machine.specs.Step.{goes, step}
 use Rattle.machine.specs.Run.{StayingRun}
 use Rattle.tables.specs.Rows.{execRowOf}
 use Rattle.tables.specs.Groups.{extRowOf, filled}
@@ -23,6 +24,11 @@ tabled m state height extHeight =
       extHeight = extHeight;
       ext = λ k. extRowOf m state 0 height k;
     }
+
+-- the states of a run up to row n: from the start on, and every step before row n is legal
+pub record LegalSteps (m : Machine) (start : State) (n : ℕ) (state : ℕ → State) : Type 0 where
+  pub begins : state 0 ≡ start
+  pub steps : (r : ℕ) → r < n → step m (state r) ≡ goes (state (suc r))
 
 -- a run that can be written down; the start's pc needs no bound: the first step is legal, so it is in the program
 pub record Writable (g : Given) (start : State) (height extHeight : ℕ) (state : ℕ → State) : Type 0 where

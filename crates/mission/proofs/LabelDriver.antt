@@ -1,0 +1,103 @@
+-- The C boundary of labels: what `uisnabar_label` promises tells a driver the text's one reading.
+-- Assumes nothing.
+use mathlib.Core.Path.{_≡_, sym, ap, _∙_}
+use mathlib.Core.Logic.{inl, inr}
+use mathlib.Core.Bool.{true}
+use mathlib.Core.List.{List, [], _∷_}
+use Prim.Native.Nat.{ℕ, suc, _+_, _*_, _/_, _%_, _^_, _≤_, _<_}
+use native.Mathlib.Omega.{arith}
+use lib.Dec.{eqb}
+use lib.ListN.{length}
+use borrow.Author.Tests.{eq-eqb}
+use Rattle.word.proofs.Tests.{by-test}
+use Rattle.word.proofs.FourBytes.{read-bytes}
+use Rattle.rows.specs.Rows.{bytesOfWords, putRow}
+use Rattle.answer.specs.Verdicts.{numbersOf}
+use Rattle.answer.specs.declared.Answer.{Answer}
+use Rattle.answer.specs.declared.Answer.the-variants.{Accepted}
+use Rattle.label.specs.Label.{InRange, labelOf}
+use Rattle.label.specs.Reading.{Valid, Reads, Place, shared}
+use Rattle.label.specs.declared.Recipe.{Recipe}
+use Rattle.label.specs.declared.Reading.{Reading}
+use Rattle.label.proofs.Label.{reads-label}
+use Rattle.label.proofs.Range.{m-high, n-high}
+use Rattle.program_build.proofs.Cut.{label-most}
+use Rattle.judge_spec.proofs.Narrow.{Narrow}
+use Rattle.reply.specs.Reply.{answerWords}
+use Rattle.uisnabar.specs.Calls.{bothFit, recipeWords}
+use Rattle.mission.specs.Promises.{ReaderCall}
+use Rattle.mission.specs.Driver.{numbersIn, recipeIn, DriverReadsLabel}
+use Rattle.mission.proofs.Numbers.{verdict-zero}
+use Rattle.mission.proofs.Driver.{numbers-back}
+
+-- what is shared with a label is no longer than it
+shared-most : (xs ys : List ℕ) → shared xs ys ≤ length xs
+unfolding shared
+shared-most [] ys = omega arith
+shared-most (x ∷ xs) [] = omega arith
+shared-most (x ∷ xs) (y ∷ ys) =
+    by-test (λ (n : ℕ). n ≤ suc (length xs)) (eqb x y) (λ e. omega (arith, shared-most xs ys)) (λ e. omega arith)
+
+place-small : {text : List ℕ} {k : ℕ} → Place text k → k < 2 ^ 32
+place-small {text} p =
+    let (r, range, e) = p .attained in
+    omega (arith, shared-most (labelOf r) text, label-most r (range .ranges))
+
+reading-narrow : (text : List ℕ) (r : Reading) → Reads text r → Narrow (numbersOf (r .answer))
+reading-narrow text r (inl a) = rw (a .answer) (record { verdict = omega arith; part = omega arith; place = omega arith; rule = omega arith })
+reading-narrow text r (inr n) =
+    rw (n .answer) (record { verdict = omega arith; part = omega arith; place = place-small (n .nearest); rule = omega arith })
+
+-- a recipe in range reads back from its 16 bytes
+recipe-back : (r : Recipe) → InRange r → recipeIn (bytesOfWords (recipeWords r)) ≡ r
+unfolding bytesOfWords
+recipe-back r range =
+    let low : r .seed % 2 ^ 32 < 2 ^ 32 = omega arith in
+    let high : r .seed / 2 ^ 32 < 2 ^ 32 = omega (arith, range .bits) in
+    λ i.
+    record {
+      seed = whole-seed (read-bytes (r .seed % 2 ^ 32) low) (read-bytes (r .seed / 2 ^ 32) high) i;
+      m = read-bytes (r .m) (omega (arith, m-high r (range .ranges))) i;
+      n = read-bytes (r .n) (omega (arith, n-high r (range .ranges))) i;
+    }
+  where
+    whole-seed : {a b : ℕ} → a ≡ r .seed % 2 ^ 32 → b ≡ r .seed / 2 ^ 32 → a + 2 ^ 32 * b ≡ r .seed
+    whole-seed e f = omega arith
+
+module _ (text answer recipe : List ℕ) (x : ℕ × List ℕ × List ℕ) (answer-sized : length answer ≡ 16) (recipe-sized : length recipe ≡ 16)
+    (call : ReaderCall text answer recipe x) where
+  fit : bothFit answer recipe ≡ true
+  fit = rw (eq-eqb (length answer) 16 answer-sized, eq-eqb (length recipe) 16 recipe-sized)
+
+  told : x .0 ≡ numbersOf (call .reading .answer) .verdict
+  told = rw fit at (call .verdict)
+
+  answered : x .1 ≡ bytesOfWords (answerWords (call .reading .answer))
+  unfolding putRow
+  answered = rw (eq-eqb (length answer) 16 answer-sized) at (rw fit at (call .answered))
+
+  is-accepted : x .0 ≡ 0 → call .reading .answer ≡ Accepted
+  is-accepted e = verdict-zero (call .reading .answer) (sym told ∙ e)
+
+  written : x .0 ≡ 0 → x .2 ≡ bytesOfWords (recipeWords (call .reading .recipe))
+  unfolding putRow
+  written e = rw (eq-eqb (length recipe) 16 recipe-sized) at (rw (fit, is-accepted e) at (call .written))
+
+  -- a valid text is read, not refused
+  valid-zero : Valid text → Reads text (call .reading) → x .0 ≡ 0
+  valid-zero v (inl a) = told ∙ ap (λ (y : Answer). numbersOf y .verdict) (a .answer)
+  valid-zero v (inr n) = absurd (n .invalid v)
+
+  back : x .0 ≡ 0 → InRange (call .reading .recipe) × (text ≡ labelOf (call .reading .recipe))
+  back e = reads-label text (call .reading) (call .reads) (is-accepted e)
+
+  pub driver-reads-label : DriverReadsLabel text (x .0) (x .1) (x .2)
+  driver-reads-label =
+      record {
+        reading = call .reading;
+        reads = call .reads;
+        numbers = ap numbersIn answered ∙ numbers-back (call .reading .answer) (reading-narrow text (call .reading) (call .reads));
+        verdict = told;
+        valid = ((λ e. (call .reading .recipe, back e .0, sym (back e .1))), λ v. valid-zero v (call .reads));
+        recipe-read = λ e. ap recipeIn (written e) ∙ recipe-back (call .reading .recipe) (back e .0);
+      }

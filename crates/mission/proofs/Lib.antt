@@ -1,0 +1,6 @@
+pub mod Numbers
+pub mod Effects
+pub mod Driver
+pub mod LabelDriver
+pub mod Contracts
+pub mod Mission

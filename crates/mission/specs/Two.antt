@@ -1,0 +1,49 @@
+-- The mission, demand 2: "A table is accepted exactly when it satisfies the constraints of the leanVM draft 0.6.0; a
+-- refusal names the first failing rule in document 01's order. A recipe is written as one label, the label reads back
+-- as that recipe, all 64 bits of the seed included, and no other text reads as it."
+-- Parts are the four parts as bytes, and the start; `judgeOf` is the answer that `judge::judge` promises. `Satisfies`
+-- (rules) knows neither machine nor judge; `Says` (judge_spec) says for each verdict what document 01's table has: the
+-- first failure in its order, by part, row and rule. A recipe in range is a seed below 2^64, m and n; `labelOf` is its
+-- label byte for byte, and `Reads` what `label::read_label` promises.
+-- Declared in src/: Answer (answer); Recipe, Reading (label).
+use mathlib.Core.Path.{_≡_}
+use mathlib.Core.Logic.{_↔_}
+use mathlib.Core.List.{List, _++_}
+use Prim.Native.Nat.{ℕ, _≤_}
+use lib.ListN.{length, drop}
+use Rattle.answer.specs.declared.Answer.{Answer}
+use Rattle.answer.specs.declared.Answer.the-variants.{Accepted}
+use Rattle.label.specs.Label.{InRange, labelOf}
+use Rattle.label.specs.Reading.{Reads, Place}
+use Rattle.label.specs.Writing.{written, buffered}
+use Rattle.label.specs.declared.Recipe.{Recipe}
+use Rattle.label.specs.declared.Reading.{Reading}
+use Rattle.answer.specs.declared.Answer.the-variants.{Label}
+use Rattle.rules.specs.Sizes.{Parts}
+use Rattle.rules.specs.Satisfies.{Satisfies}
+use Rattle.judge_spec.specs.Judged.{judgeOf}
+use Rattle.judge_spec.specs.Refusal.{Says}
+use Rattle.mission.specs.Promises.{JudgeCall, ReaderCall}
+use Rattle.mission.specs.Driver.{DriverReads, DriverReadsLabel}
+
+pub record DemandTwo : Type 0 where
+  -- a table is accepted exactly when it satisfies the constraints
+  pub accepted-exactly : (q : Parts) → (judgeOf q ≡ Accepted) ↔ Satisfies q
+  -- the judge gives an answer exactly where what the answer says is so: a refusal names the first failing rule
+  pub answers-exactly : (q : Parts) (a : Answer) → (judgeOf q ≡ a) ↔ Says q a
+  -- and so for a driver in C, from what `uisnabar_judge` promises
+  pub driver-reads : (q : Parts) (buffer : List ℕ) (x : ℕ × List ℕ) → length buffer ≡ 16 → JudgeCall q buffer x → DriverReads q (x .0) (x .1)
+  -- a driver reads a label as the reader does, from what `uisnabar_label` promises
+  pub driver-reads-label : (text answer recipe : List ℕ) (x : ℕ × List ℕ × List ℕ) → length answer ≡ 16 → length recipe ≡ 16
+      → ReaderCall text answer recipe x
+      → DriverReadsLabel text (x .0) (x .1) (x .2)
+  -- a recipe is written as one label, and the bytes after it keep what they held
+  pub label-written : (r : Recipe) (buffer : List ℕ) → InRange r → length (labelOf r) ≤ length buffer
+      → (written r (length buffer) ≡ record { answer = Accepted; length = length (labelOf r) })
+      × (buffered r buffer ≡ labelOf r ++ drop (length (labelOf r)) buffer)
+  -- the label reads back as that recipe, all 64 bits of the seed included
+  pub label-reads-back : (r : Recipe) → InRange r → (x : Reading) → Reads (labelOf r) x → (x .answer ≡ Accepted) × (x .recipe ≡ r)
+  -- and no other text reads as it
+  pub no-other-text : (text : List ℕ) (x : Reading) → Reads text x → x .answer ≡ Accepted → InRange (x .recipe) × (text ≡ labelOf (x .recipe))
+  -- a refused text's place is the longest prefix it shares with any valid label
+  pub label-place : (text : List ℕ) (x : Reading) (place : ℕ) → Reads text x → x .answer ≡ Label place → Place text place
