@@ -16,7 +16,7 @@ fn selected_by_flags(flag: u32, fp_flag: u32, operand: u32, value: u32, fp: u32)
     )
 }
 
-// Immediate, looked up, or fp + operand. Only flags that are neither of the first two take the polynomial.
+// Immediate, looked up, or fp + operand. Only flags that are none of these take the polynomial.
 pub fn selected(flag: u32, fp_flag: u32, operand: u32, value: u32, fp: u32) -> u32
     ensures { λ r. ⌜ r ≡ selectedOf flag «fp_flag» operand value fp ⌝ }
 {
@@ -27,6 +27,9 @@ pub fn selected(flag: u32, fp_flag: u32, operand: u32, value: u32, fp: u32) -> u
         if flag == 1 {
             return add(operand, 0);
         }
+    }
+    if (fp_flag == 1) & (flag == 0) {
+        return add(fp, operand);
     }
     selected_by_flags(flag, fp_flag, operand, value, fp)
 }
