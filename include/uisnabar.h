@@ -84,9 +84,10 @@ static inline const char *uisnabar_name(uint32_t verdict)
  *   answer   UISNABAR_ANSWER_BYTES, written on every verdict but ANSWER
  *
  * Returns ACCEPTED, 1 to 7, or ANSWER where answer_len is another. Tests run in number order, ANSWER first.
- * Time grows with the bytes handed in where groups stand in execution order, as a tabler writes them. In other orders it grows faster, and
- * tables of the largest sizes that were chosen to be refused may take some 12 to 40 minutes, by estimate (docs/DECISIONS.md, "The bus in the judge"):
- * a driver that judges what strangers send may want to bound its own time.
+ * Time grows with the bytes handed in where groups stand in execution order, as a tabler writes them. In other orders
+ * it grows faster: of tables of the largest sizes that were chosen to be refused, the slowest that we know took five
+ * and a half minutes (docs/DECISIONS.md, "The bus in the judge"). A driver that judges what strangers send may want to
+ * bound its own time.
  */
 uint32_t uisnabar_judge(const uint8_t *program, size_t program_len, const uint8_t *memory, size_t memory_len,
                         uint64_t pc, uint64_t fp, const uint8_t *exec, size_t exec_len,
