@@ -152,7 +152,7 @@ run_checks() {
     check "the command uisnabar, on every verdict and rule" cli_test
     check "library and second implementation agree" differ 1 40000
     check "the same at the end of a page, on a small stack" differ --page 2 4000
-    check "the same on tables of 16,383 and 32,767 groups" differ --large
+    check "the same on large tables, in rounds and windows, accepted and refused" differ --large
 }
 
 # gate [--quick]: --quick trusts what was proved before and tries no edit

@@ -1,4 +1,4 @@
-/* What a fault in a call prints, and calls on a thread with a 64 KiB stack
+/* What a fault in a call prints, and calls on a thread with a 32 KiB stack
  * that faults below its end. */
 #ifndef DIFFER_THREAD_H
 #define DIFFER_THREAD_H
