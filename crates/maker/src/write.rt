@@ -5,11 +5,12 @@ use crate::draws::draw_three;
 use crate::instructions::halt_words;
 use crate::instructions::made_words;
 use crate::slots::slot_words;
+use word::clear;
 use word::put_word;
 ghost use mathlib.Core.Path.{_≡_};
 ghost use mathlib.Core.List.{_++_};
 ghost use Prim.Native.Nat.{_+_, _*_, _/_, _%_, _≤_, _<_};
-ghost use lib.ListN.{length, drop, replicate};
+ghost use lib.ListN.{length, drop};
 ghost use Rattle.maker.specs.Drawn.{drawsOf};
 ghost use Rattle.maker.specs.Made.{kindPicked, made, slotCells};
 ghost use Rattle.maker.specs.Inner.{cellIn, eight};
@@ -23,16 +24,6 @@ fn put_words(words: &[u32], s: &mut [u8])
     let mut k = 0;
     while k < words.len() {
         put_word(s, 4 * k, words[k]);
-        k += 1;
-    }
-}
-
-fn clear(s: &mut [u8])
-    ensures { λ _. ⌜ now (s .exit) ≡ replicate (length (now (s .entry))) 0 ⌝ }
-{
-    let mut k = 0;
-    while k < s.len() {
-        s[k] = 0;
         k += 1;
     }
 }

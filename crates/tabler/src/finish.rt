@@ -1,8 +1,8 @@
 // A run to its end: the tables filled, or all zero.
-use crate::clear::clear;
 use crate::run::run;
 use answer::Answer;
 use answer::four_numbers;
+use word::clear;
 ghost use lib.ListN.{length};
 ghost use Rattle.inputs.specs.Parts.{Fitting};
 ghost use Rattle.tabler.specs.Ends.{runOf, Tabling};

@@ -1,5 +1,4 @@
 // The tabler: a program, a memory and a start, to the two tables of the run.
-mod clear;
 mod fetch;
 mod finish;
 mod run;

@@ -1,7 +1,7 @@
-// Words in four bytes, lowest first.
+// Words in four bytes, lowest first; and bytes that are all 0.
 ghost use mathlib.Core.Path.{_≡_};
 ghost use Prim.Native.Nat.{_+_, _≤_, _<_};
-ghost use lib.ListN.{length, getD};
+ghost use lib.ListN.{length, getD, replicate};
 ghost use Rattle.word.specs.Bytes.{wordAt, withWord};
 
 fn wide(x: u8) -> u32
@@ -68,4 +68,15 @@ pub fn put_word(s: &mut [u8], at: usize, x: u32)
     s[at + 1] = (x / 256 % 256) as u8;
     s[at + 2] = (x / 65536 % 256) as u8;
     s[at + 3] = (x / 16777216 % 256) as u8;
+}
+
+// Every byte 0: what a refused run leaves, and cells that nothing was drawn for.
+pub fn clear(s: &mut [u8])
+    ensures { λ _. ⌜ now (s .exit) ≡ replicate (length (now (s .entry))) 0 ⌝ }
+{
+    let mut k = 0;
+    while k < s.len() {
+        s[k] = 0;
+        k += 1;
+    }
 }

@@ -1,6 +1,7 @@
 // Words modulo p, and words in bytes.
 mod bytes;
 
+pub use bytes::clear;
 pub use bytes::put_word;
 pub use bytes::word_at;
 pub use bytes::word_inside;

@@ -7,8 +7,8 @@ use borrow.Author.Fill.{fill-more}
 use borrow.Author.Needs.{needs}
 use lib.Seq.{drop-length}
 use lib.ListN.{length-set, length, drop, replicate}
-use Rattle.maker.proofs.write.clear.Statement.{statement}
-use Rattle.maker.proofs.write.clear.Tie as tie
+use Rattle.word.proofs.bytes.clear.Statement.{statement}
+use Rattle.word.proofs.bytes.clear.Tie as tie
 
 abbrev Inv-loop : tie.InvT-loop
 Inv-loop s₀ k₀ s k =
