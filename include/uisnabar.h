@@ -42,7 +42,7 @@ enum uisnabar_verdict {
     UISNABAR_START = 4,       /* row 0 of the execution table isn't the start */
     UISNABAR_EXEC = 5,        /* part 3, place: row, rule: 1 to 16; first by row, then by rule */
     UISNABAR_EXTENSION = 6,   /* part 4, place: row, rule: first by row, then 18 to 21, then 1 to 17 */
-    UISNABAR_BUS = 7,         /* part 3, place: first pushing row whose tuple is unequal; else part 4, first pulling row */
+    UISNABAR_BUS = 7,         /* part 3, place: first pushing row of an unequal tuple; else part 4, first pulling row */
     UISNABAR_LABEL = 8,       /* place: longest prefix shared with any valid label */
     UISNABAR_STUCK = 9,
     UISNABAR_ROOM = 10,

@@ -17,11 +17,12 @@ speed_input speed_build(unsigned height_log, unsigned ext_log, unsigned memory_l
 /* The extension table with its groups in another order, from the one that stands in `ext`. */
 void speed_shuffle(speed_input *in, uint64_t seed);
 
-/* In `shuffled` the table that stands in `ext`, but that the last group is gone: nothing pulls what the last extension step pushes. */
+/* In `shuffled` the table that stands in `ext`, but that the last group is gone: nothing pulls what the last extension
+ * step pushes. */
 void speed_unpull(speed_input *in);
 
-/* Every row but the last pushes a tuple of its own; the first K - 1 of them are pulled, the last of them first. Both tables are written.
- * Of the tables refused at the bus that we know, the judge takes longest for this one. */
+/* Every row but the last pushes a tuple of its own; the first K - 1 of them are pulled, the last of them first. Both
+ * tables are written. Of the tables refused at the bus that we know, the judge takes longest for this one. */
 speed_input speed_dense(unsigned height_log, unsigned ext_log);
 
 void speed_free(speed_input *in);
