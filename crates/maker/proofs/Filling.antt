@@ -14,7 +14,7 @@ use Rattle.maker.specs.Drawn.{Draws}
 use Rattle.maker.specs.Made.{kindPicked, made, jumpTo, instructionMade, slotCells, cellOf}
 use Rattle.maker.specs.Inner.{cellIn, eight}
 use Rattle.maker.specs.Bytes.{wordBytes, instructionWords, instructionsOf, cellsOf}
-use Rattle.word.proofs.Concatenated.{parts-length, parts-append, parts-same, parts-one}
+use Rattle.word.proofs.Concatenated.{lent-length, parts-length, parts-append, parts-same, parts-one}
 use Rattle.maker.proofs.Parts.{words-length, zero-parts, lent, behind, front-length}
 use Rattle.maker.proofs.Cells.{drawn-cell, slot-cell, cell-past, slot-same, eight-at}
 
@@ -161,3 +161,10 @@ fewer i n h k = omega arith
 
 pub next-below : (i n : ℕ) → i < n → i + 1 ≤ n
 next-below i n h = omega arith
+
+-- the bytes of one, as lent
+pub program-lent : (t : List ℕ) (i : ℕ) → 48 * (i + 1) ≤ length t → length (take (48 * i + 48 - 48 * i) (drop (48 * i) t)) ≡ 48
+program-lent t i room = lent-length t (48 * i) 48 (omega arith)
+
+pub memory-lent : (t : List ℕ) (i : ℕ) → 128 + 32 * (i + 1) ≤ length t → length (take (128 + 32 * i + 32 - (128 + 32 * i)) (drop (128 + 32 * i) t)) ≡ 32
+memory-lent t i room = lent-length t (128 + 32 * i) 32 (omega arith)
