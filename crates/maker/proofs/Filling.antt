@@ -168,3 +168,8 @@ program-lent t i room = lent-length t (48 * i) 48 (omega arith)
 
 pub memory-lent : (t : List ℕ) (i : ℕ) → 128 + 32 * (i + 1) ≤ length t → length (take (128 + 32 * i + 32 - (128 + 32 * i)) (drop (128 + 32 * i) t)) ≡ 32
 memory-lent t i room = lent-length t (128 + 32 * i) 32 (omega arith)
+
+pub last-lent : (t : List ℕ) (n : ℕ) → length t ≡ 48 * (n + 1) → length (take (length t - 48 * n) (drop (48 * n) t)) ≡ 48
+last-lent t n e =
+    let k : length t - 48 * n ≡ 48 = omega arith in
+    rw k (length-take-le 48 (drop (48 * n) t) (omega (arith, length-drop (48 * n) t)))
