@@ -173,3 +173,6 @@ pub last-lent : (t : List ℕ) (n : ℕ) → length t ≡ 48 * (n + 1) → lengt
 last-lent t n e =
     let k : length t - 48 * n ≡ 48 = omega arith in
     rw k (length-take-le 48 (drop (48 * n) t) (omega (arith, length-drop (48 * n) t)))
+
+pub begun-lent : (t : List ℕ) (n : ℕ) → 128 + 32 * n ≤ length t → length (take 128 t) ≡ 128
+begun-lent t n room = length-take-le 128 t (omega arith)

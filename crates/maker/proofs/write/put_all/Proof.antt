@@ -1,16 +1,14 @@
 -- The invariant: the state is the one after 32 + 3i draws, i instructions and 32 + 8i cells stand at the front of their
 -- buffers, and behind them what stood there. The measure is the instructions left. The laws of Filling take what they
 -- need: an `omega` here would read every place before it.
-use mathlib.Core.List.{List, _++_}
+use mathlib.Core.List.{_++_}
 use mathlib.Core.Path.{refl, _≡_, sym, _∙_}
-use Prim.Native.Nat.{ℕ, _+_, _-_, _*_, _/_, _^_, _≤_}
+use Prim.Native.Nat.{_+_, _-_, _*_, _≤_}
 use native.Mathlib.Omega.{arith}
 use borrow.Author.Needs.{needs}
-use lib.Seq.{length-take-le}
 use lib.ListN.{length, drop}
 use Rattle.word.specs.Bytes.{concatenated}
-use Rattle.draw.specs.Draw.{advance}
-use Rattle.maker.proofs.Filling.{program-on, memory-on, begun-room, cells-begun, first-length, program-room, memory-room, below, fewer, next-below}
+use Rattle.maker.proofs.Filling.{program-on, memory-on, begun-room, begun-lent, cells-begun, first-length, program-room, memory-room, below, fewer, next-below}
 use Rattle.maker.specs.Bytes.{instructionsOf, cellsOf}
 use Rattle.maker.proofs.Drawing.{kind-drawn, a-drawn, c-drawn, after-three}
 use Rattle.maker.proofs.Parts.{behind}
@@ -33,15 +31,14 @@ abbrev μ-loop : tie.MeasureT-loop
 put-words-requires : tie.Need-put-words-requires Inv-loop μ-loop
 put-words-requires c κs =
     let s = c .before .before .before .before .before .before .before in
-    let long : length (c .before .before .before .before .begin .result .cells) ≡ 32 = search needs in
-    length-take-le 128 (s .args .memory .now) (omega (arith, s .pre)) ∙ omega (arith, long)
+    begun-lent (s .args .memory .now) (s .args .n) (s .pre .2) ∙ rw (c .before .before .before .before .begin .ensures .2)
 
 loop-holds : tie.Need-loop-holds Inv-loop μ-loop
 unfolding concatenated
 loop-holds c =
     let s = c .before .before .before .before .before .before .before .before .before .before .args in
     let begun = c .before .before .before .before .before .before .before .begin in
-    let long : length (begun .result .cells) ≡ 32 = search needs in (
+    let long : length (begun .result .cells) ≡ 32 = begun .ensures .2 in (
       omega arith,
       refl,
       refl,
@@ -58,7 +55,7 @@ put-one-requires c κs =
     let e = c .before .before .before .draw-three .ensures in
     let begun = c .before .before .before .before .before .before .before .before .before .before .before .before .before .begin in
     let first = c .before .before .before .before .before .before .before .before .put-words in
-    let long : length (begun .result .cells) ≡ 32 = search needs in
+    let long : length (begun .result .cells) ≡ 32 = begun .ensures .2 in
     let room = begun-room (drawsOf (s .args .seed)) (s .args .n) (s .args .memory .now) (begun .result .cells) long (first .ensures) (s .pre .2) in (
       fewer (l .i) (s .args .n) t (s .pre .0),
       below (c .before .before .before .draw-three .result .a) _ (e .1),
@@ -79,7 +76,7 @@ loop-again c =
     let e = c .before .before .before .before .before .before .before .before .before .draw-three .ensures in
     let d = c .before .before .before .before .before .before .before .before .before .draw-three .result in
     let put = c .before .before .before .before .before .put-one .ensures in
-    let long : length (begun .result .cells) ≡ 32 = search needs in
+    let long : length (begun .result .cells) ≡ 32 = begun .ensures .2 in
     let kind : d .kind ≡ drawsOf seed .kind (l .i) = (rw (l .inv .3) at (e .0)) ∙ sym (kind-drawn seed (l .i)) in
     let a : d .a ≡ drawsOf seed .a (l .i) = (rw (l .inv .3) at (e .1)) ∙ sym (a-drawn seed (l .i)) in
     let c' : d .c ≡ drawsOf seed .c (l .i) = (rw (l .inv .3) at (e .2)) ∙ sym (c-drawn seed (l .i)) in
@@ -102,7 +99,7 @@ returns c =
     let s = c .before .before .before .before .before .before .before .before .before .before .before .before .args in
     let begun = c .before .before .before .before .before .before .before .before .before .begin in
     let first = c .before .before .before .before .put-words in
-    let long : length (begun .result .cells) ≡ 32 = search needs in
+    let long : length (begun .result .cells) ≡ 32 = begun .ensures .2 in
     let e : s .n ≡ l .i = omega arith in
     let front = first-length (drawsOf (s .seed)) (s .n) (begun .result .cells) long (first .ensures) in (
       rw e (l .inv .4),
@@ -127,6 +124,6 @@ put-all-spec =
     (λ c. search needs)
     (λ c. search needs)
     loop-again
-    (λ c. search needs)
-    (λ c. search needs)
+    (λ c. c .before .loop .inv .1)
+    (λ c. c .before .loop .inv .2 ∙ c .before .before .before .memory .given .1)
     returns)
