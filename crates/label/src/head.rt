@@ -17,7 +17,8 @@ fn formed(text: &[u8]) -> bool
     let mut good = true;
     let mut at = 0;
     while at < 33 {
-        good = good & ((form[at] == 46) | (text[at] == form[at]));
+        let f = form[at];
+        good = good & ((f == 46) | (text[at] == f));
         at += 1;
     }
     good

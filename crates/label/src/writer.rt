@@ -23,18 +23,16 @@ fn tail(n: u32) -> [u8; 4]
     requires { ⌜ n ≤ 124 ⌝ }
     ensures { λ r. ⌜ r ≡ tailOf n ⌝ }
 {
-    if n < 10 {
-        return [48 + n as u8, 10, 0, 0];
+    let b = n as u8;
+    let units = 48 + b % 10;
+    if b < 10 {
+        return [units, 10, 0, 0];
     }
-    if n < 100 {
-        return [48 + (n / 10) as u8, 48 + (n % 10) as u8, 10, 0];
+    let tens = 48 + b / 10 % 10;
+    if b < 100 {
+        return [tens, units, 10, 0];
     }
-    [
-        48 + (n / 100) as u8,
-        48 + (n / 10 % 10) as u8,
-        48 + (n % 10) as u8,
-        10,
-    ]
+    [48 + b / 100, tens, units, 10]
 }
 
 // The value of seed's hex digit that has k digits after it, out of all 64 bits.

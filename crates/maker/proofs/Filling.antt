@@ -14,7 +14,7 @@ use Rattle.maker.specs.Drawn.{Draws}
 use Rattle.maker.specs.Made.{kindPicked, made, jumpTo, instructionMade, slotCells, cellOf}
 use Rattle.maker.specs.Inner.{cellIn, eight}
 use Rattle.maker.specs.Bytes.{wordBytes, instructionWords, instructionsOf, cellsOf}
-use Rattle.word.proofs.Concatenated.{parts-length, parts-append, parts-same, parts-one}
+use Rattle.word.proofs.Concatenated.{lent-length, parts-length, parts-append, parts-same, parts-one}
 use Rattle.maker.proofs.Parts.{words-length, zero-parts, lent, behind, front-length}
 use Rattle.maker.proofs.Cells.{drawn-cell, slot-cell, cell-past, slot-same, eight-at}
 
@@ -26,14 +26,14 @@ module _ (d : Draws) (n : ℕ) where
   cells-length k = parts-length _ 4 (λ j. refl) k
 
   -- a buffer so filled keeps its length
-  pub program-kept : (t : List ℕ) (k : ℕ) {s : List ℕ} → s ≡ instructionsOf d n k ++ drop (48 * k) t → 48 * k ≤ length t → length s ≡ length t
+  program-kept : (t : List ℕ) (k : ℕ) {s : List ℕ} → s ≡ instructionsOf d n k ++ drop (48 * k) t → 48 * k ≤ length t → length s ≡ length t
   program-kept t k e h = ap length e ∙ front-length t (instructionsOf d n k) (48 * k) (program-length k) h
 
-  pub cells-kept : (t : List ℕ) (k : ℕ) {s : List ℕ} → s ≡ cellsOf d n (32 + 8 * k) ++ drop (128 + 32 * k) t → 128 + 32 * k ≤ length t → length s ≡ length t
+  cells-kept : (t : List ℕ) (k : ℕ) {s : List ℕ} → s ≡ cellsOf d n (32 + 8 * k) ++ drop (128 + 32 * k) t → 128 + 32 * k ≤ length t → length s ≡ length t
   cells-kept t k e h = ap length e ∙ front-length t (cellsOf d n (32 + 8 * k)) (128 + 32 * k) (cells-length (32 + 8 * k) ∙ omega arith) h
 
   -- instruction i, through its own bytes
-  pub instruction-next : (t s row : List ℕ) (i end : ℕ) → s ≡ instructionsOf d n i ++ drop (48 * i) t → end ≡ 48 * (i + 1)
+  instruction-next : (t s row : List ℕ) (i end : ℕ) → s ≡ instructionsOf d n i ++ drop (48 * i) t → end ≡ 48 * (i + 1)
       → row ≡ wordBytes (instructionWords (instructionMade d n i))
       → take (48 * i) s ++ (row ++ drop (end - 48 * i) (drop (48 * i) s)) ≡ instructionsOf d n (i + 1) ++ drop (48 * (i + 1)) t
   instruction-next t s row i end was e is =
@@ -41,7 +41,7 @@ module _ (d : Draws) (n : ℕ) where
       (lent t (instructionsOf d n i) row (48 * i) end (program-length i) (omega arith)
       ∙ rw (is, parts-one (λ k. wordBytes (instructionWords (instructionMade d n k))) i, e))
 
-  pub made-row : (i kind a c : ℕ) {row : List ℕ} → i < n → kind ≡ d .kind i → a ≡ d .a i → c ≡ d .c i
+  made-row : (i kind a c : ℕ) {row : List ℕ} → i < n → kind ≡ d .kind i → a ≡ d .a i → c ≡ d .c i
       → row ≡ wordBytes (instructionWords (made i (kindPicked kind c) a c)) → row ≡ wordBytes (instructionWords (instructionMade d n i))
   made-row i kind a c h ek ea ec is = is ∙ ap (λ (x : Instruction). wordBytes (instructionWords x)) same
     where
@@ -65,8 +65,12 @@ module _ (d : Draws) (n : ℕ) where
   pub first-length : (drawn : List ℕ) {row : List ℕ} → length drawn ≡ 32 → row ≡ wordBytes drawn → length row ≡ 128
   first-length drawn e is = ap length is ∙ words-length drawn ∙ ap (λ (k : ℕ). 4 * k) e
 
+  pub begun-room : (t drawn : List ℕ) {row : List ℕ} → length drawn ≡ 32 → row ≡ wordBytes drawn → 128 + 32 * n ≤ length t
+      → 128 + 32 * n ≤ length (row ++ drop 128 t)
+  begun-room t drawn {row} e is room = rw (front-length t row 128 (first-length drawn e is) (omega arith)) room
+
   -- the cells of slot i
-  pub slot-row : (drawn : List ℕ) → ((k : ℕ) → k < 32 → getD drawn k 0 ≡ d .cell k) → (i kind a c : ℕ) → i < n
+  slot-row : (drawn : List ℕ) → ((k : ℕ) → k < 32 → getD drawn k 0 ≡ d .cell k) → (i kind a c : ℕ) → i < n
       → kind ≡ d .kind i → a ≡ d .a i → c ≡ d .c i → a < 32 → c < 32
       → {row : List ℕ} → row ≡ wordBytes (eight (slotCells (cellIn drawn) (kindPicked kind c) a c)) → cellsOf d n (32 + 8 * i) ++ row ≡ cellsOf d n (32 + 8 * (i + 1))
   slot-row drawn same i kind a c h ek ea ec ha hc is =
@@ -80,13 +84,35 @@ module _ (d : Draws) (n : ℕ) where
           eight-at (slotCells (cellIn drawn) (kindPicked kind c) a c) j b ∙ ap (λ (l : List ℕ). getD l j 0) (slot-same (cellIn drawn) (d .cell) same kind a c ha hc)
           ∙ rw (ek, ea, ec) (sym (slot-cell d n i j h b))
 
-  pub slot-next : (t s row : List ℕ) (i end : ℕ) → s ≡ cellsOf d n (32 + 8 * i) ++ drop (128 + 32 * i) t → end ≡ 128 + 32 * (i + 1)
+  slot-next : (t s row : List ℕ) (i end : ℕ) → s ≡ cellsOf d n (32 + 8 * i) ++ drop (128 + 32 * i) t → end ≡ 128 + 32 * (i + 1)
       → cellsOf d n (32 + 8 * i) ++ row ≡ cellsOf d n (32 + 8 * (i + 1))
       → take (128 + 32 * i) s ++ (row ++ drop (end - (128 + 32 * i)) (drop (128 + 32 * i) s)) ≡ cellsOf d n (32 + 8 * (i + 1)) ++ drop (128 + 32 * (i + 1)) t
   slot-next t s row i end was e is =
       rw was
       (lent t (cellsOf d n (32 + 8 * i)) row (128 + 32 * i) end (cells-length (32 + 8 * i) ∙ omega arith) (omega arith)
       ∙ rw (is, e))
+
+  -- an instruction and its slot on, as `put_one` writes them: each buffer keeps its length
+  module _ (i kind a c : ℕ) (h : i < n) (ek : kind ≡ d .kind i) (ea : a ≡ d .a i) (ec : c ≡ d .c i) where
+    pub program-on : (t s : List ℕ) {s' : List ℕ} → 48 * n ≤ length t → s ≡ instructionsOf d n i ++ drop (48 * i) t
+        → s' ≡ take (48 * i) s ++ (wordBytes (instructionWords (made i (kindPicked kind c) a c)) ++ drop (48 * i + 48 - 48 * i) (drop (48 * i) s))
+        → (length s' ≡ length t) × (s' ≡ instructionsOf d n (i + 1) ++ drop (48 * (i + 1)) t)
+    program-on t s room was is =
+        let on =
+        is ∙ instruction-next t s (wordBytes (instructionWords (made i (kindPicked kind c) a c))) i (48 * i + 48) was (omega arith) (made-row i kind a c h ek ea ec refl)
+        in
+        (program-kept t (i + 1) on (omega arith), on)
+
+    pub memory-on : (drawn : List ℕ) → ((k : ℕ) → k < 32 → getD drawn k 0 ≡ d .cell k) → a < 32 → c < 32
+        → (t s : List ℕ) {s' : List ℕ} → 128 + 32 * n ≤ length t → s ≡ cellsOf d n (32 + 8 * i) ++ drop (128 + 32 * i) t
+        → s' ≡ take (128 + 32 * i) s ++ (wordBytes (eight (slotCells (cellIn drawn) (kindPicked kind c) a c)) ++ drop (128 + 32 * i + 32 - (128 + 32 * i)) (drop (128 + 32 * i) s))
+        → (length s' ≡ length t) × (s' ≡ cellsOf d n (32 + 8 * (i + 1)) ++ drop (128 + 32 * (i + 1)) t)
+    memory-on drawn same ha hc t s room was is =
+        let row : List ℕ = wordBytes (eight (slotCells (cellIn drawn) (kindPicked kind c) a c)) in
+        let on =
+        is ∙ slot-next t s row i (128 + 32 * i + 32) was (omega arith) (slot-row drawn same i kind a c h ek ea ec ha hc {row = row} refl)
+        in
+        (cells-kept t (i + 1) on (omega arith), on)
 
   -- past the slots the memory is 0
   cells-past : (size : ℕ) → 128 + 32 * n ≤ size → size % 4 ≡ 0 → cellsOf d n (32 + 8 * n) ++ replicate (size - (128 + 32 * n)) 0 ≡ cellsOf d n (size / 4)
@@ -119,3 +145,34 @@ module _ (d : Draws) (n : ℕ) where
         (lent t (cellsOf d n (32 + 8 * n)) row (128 + 32 * n) (length t) (cells-length (32 + 8 * n) ∙ omega arith) room
         ∙ rw (drop-of-length-le t {i = length t} (omega arith), is ∙ ap (λ (k : ℕ). replicate k 0) left)
         (append-nil _ ∙ cells-past (length t) room whole))
+
+-- room for one more, in each buffer
+pub program-room : (i n x y : ℕ) → i < n → 48 * n ≤ x → y ≡ x → 48 * (i + 1) ≤ y
+program-room i n x y h room e = omega arith
+
+pub memory-room : (i n x y : ℕ) → i < n → 128 + 32 * n ≤ x → y ≡ x → 128 + 32 * (i + 1) ≤ y
+memory-room i n x y h room e = omega arith
+
+pub below : (x y : ℕ) → x ≡ y % 32 → x < 32
+below x y e = omega arith
+
+pub fewer : (i n : ℕ) → i < n → n ≤ 124 → i ≤ 124
+fewer i n h k = omega arith
+
+pub next-below : (i n : ℕ) → i < n → i + 1 ≤ n
+next-below i n h = omega arith
+
+-- the bytes of one, as lent
+pub program-lent : (t : List ℕ) (i : ℕ) → 48 * (i + 1) ≤ length t → length (take (48 * i + 48 - 48 * i) (drop (48 * i) t)) ≡ 48
+program-lent t i room = lent-length t (48 * i) 48 (omega arith)
+
+pub memory-lent : (t : List ℕ) (i : ℕ) → 128 + 32 * (i + 1) ≤ length t → length (take (128 + 32 * i + 32 - (128 + 32 * i)) (drop (128 + 32 * i) t)) ≡ 32
+memory-lent t i room = lent-length t (128 + 32 * i) 32 (omega arith)
+
+pub last-lent : (t : List ℕ) (n : ℕ) → length t ≡ 48 * (n + 1) → length (take (length t - 48 * n) (drop (48 * n) t)) ≡ 48
+last-lent t n e =
+    let k : length t - 48 * n ≡ 48 = omega arith in
+    rw k (length-take-le 48 (drop (48 * n) t) (omega (arith, length-drop (48 * n) t)))
+
+pub begun-lent : (t : List ℕ) (n : ℕ) → 128 + 32 * n ≤ length t → length (take 128 t) ≡ 128
+begun-lent t n room = length-take-le 128 t (omega arith)

@@ -2,7 +2,7 @@
 use draw::Generator;
 ghost use mathlib.Core.Path.{_≡_};
 ghost use Prim.Native.Nat.{ℕ, _/_, _%_, _^_, _<_};
-ghost use lib.ListN.{getD};
+ghost use lib.ListN.{length, getD};
 ghost use Rattle.draw.specs.Draw.{advance};
 ghost use Rattle.maker.specs.Drawn.{stateAfter, drawsOf};
 
@@ -27,6 +27,7 @@ pub(crate) fn begin(seed: u64) -> Begun
     ensures { λ r. ⌜
         ((k : ℕ) → k < 32 → getD (r .cells) k 0 ≡ drawsOf seed .cell k)
         × (r .next .state ≡ stateAfter seed 32)
+        × (length (r .cells) ≡ 32)
         ⌝ }
 {
     let mut cells = [0u32; 32];

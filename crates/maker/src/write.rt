@@ -9,8 +9,8 @@ use word::clear;
 use word::put_word;
 ghost use mathlib.Core.Path.{_≡_};
 ghost use mathlib.Core.List.{_++_};
-ghost use Prim.Native.Nat.{_+_, _*_, _/_, _%_, _≤_, _<_};
-ghost use lib.ListN.{length, drop};
+ghost use Prim.Native.Nat.{_+_, _-_, _*_, _/_, _%_, _≤_, _<_};
+ghost use lib.ListN.{length, take, drop};
 ghost use Rattle.maker.specs.Drawn.{drawsOf};
 ghost use Rattle.maker.specs.Made.{kindPicked, made, slotCells};
 ghost use Rattle.maker.specs.Inner.{cellIn, eight};
@@ -28,18 +28,34 @@ fn put_words(words: &[u32], s: &mut [u8])
     }
 }
 
-// An instruction and its slot, through their own bytes.
-fn put_one(cells: &[u32; 32], i: u32, drawn: Three, instruction: &mut [u8], slot: &mut [u8])
-    requires { ⌜ (i ≤ 124) × (drawn .a < 32) × (drawn .c < 32) × (length (now instruction) ≡ 48) × (length (now slot) ≡ 32) ⌝ }
+// An instruction and its slot, each through its own bytes of its buffer.
+fn put_one(cells: &[u32; 32], i: u32, drawn: Three, program: &mut [u8], memory: &mut [u8])
+    requires { ⌜
+        (i ≤ 124)
+        × (drawn .a < 32)
+        × (drawn .c < 32)
+        × (48 * (i + 1) ≤ length (now program))
+        × (128 + 32 * (i + 1) ≤ length (now memory))
+        ⌝ }
     ensures { λ _. ⌜
-        (now (instruction .exit) ≡ wordBytes (instructionWords (made i (kindPicked (drawn .kind) (drawn .c)) (drawn .a) (drawn .c))))
-        × (now (slot .exit) ≡ wordBytes (eight (slotCells (cellIn (now (cells .entry))) (kindPicked (drawn .kind) (drawn .c)) (drawn .a) (drawn .c))))
+        (now (program .exit)
+        ≡ take (48 * i) (now (program .entry))
+        ++ (wordBytes (instructionWords (made i (kindPicked (drawn .kind) (drawn .c)) (drawn .a) (drawn .c)))
+        ++ drop (48 * i + 48 - 48 * i) (drop (48 * i) (now (program .entry)))))
+        × (now (memory .exit)
+        ≡ take (128 + 32 * i) (now (memory .entry))
+        ++ (wordBytes (eight (slotCells (cellIn (now (cells .entry))) (kindPicked (drawn .kind) (drawn .c)) (drawn .a) (drawn .c)))
+        ++ drop (128 + 32 * i + 32 - (128 + 32 * i)) (drop (128 + 32 * i) (now (memory .entry)))))
         ⌝ }
 {
     let words = made_words(i, drawn.kind, drawn.a, drawn.c);
-    put_words(&words, instruction);
+    let at = 48 * (i as usize);
+    let past = at + 48;
+    put_words(&words, &mut program[at..past]);
     let filled = slot_words(cells, drawn.kind, drawn.a, drawn.c);
-    put_words(&filled, slot);
+    let slot = 128 + 32 * (i as usize);
+    let behind = slot + 32;
+    put_words(&filled, &mut memory[slot..behind]);
 }
 
 // The drawn cells, then each instruction with its slot.
@@ -59,17 +75,7 @@ fn put_all(seed: u64, n: u32, program: &mut [u8], memory: &mut [u8])
     let mut i: u32 = 0;
     while i < n {
         let draws = draw_three(generator);
-        let at = 48 * (i as usize);
-        let past = at + 48;
-        let slot = 128 + 32 * (i as usize);
-        let behind = slot + 32;
-        put_one(
-            &drawn,
-            i,
-            draws,
-            &mut program[at..past],
-            &mut memory[slot..behind],
-        );
+        put_one(&drawn, i, draws, &mut *program, &mut *memory);
         let next = draws.next;
         generator = next;
         i += 1;

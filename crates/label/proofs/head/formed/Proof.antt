@@ -41,6 +41,5 @@ formed-spec =
     (λ c. search needs)
     (λ c. search needs)
     (λ c. search needs)
-    (λ c. search needs)
     loop-again
     returns)

@@ -27,7 +27,7 @@ returns : tie.Need-returns Inv-loop μ-loop
 returns c =
     let text = c .before .before .before .before .before .before .before .before .before .before .args .text .now in
     let l = c .before .before .before .before .before .before .loop in
-    let e : nextStep (l .s) (getD text (l .i) 0) ≡ Stop = cc in
+    let e : nextStep (l .s) (getD text (l .i) 0) ≡ Stop = sym (c .before .before .before .advance .ensures) ∙ c .before .enum-told .given .1 in
     subst (Reads text)
     (l .inv .3 ∙ (stops text (l .s) (l .i) (c .before .before .before .before .before .loop-test .taken) e ∙ sym (c .refused .ensures)))
     (reading-holds text)
@@ -37,7 +37,7 @@ loop-again c =
     let text = c .before .before .before .before .before .before .before .before .before .before .args .text .now in
     let l = c .before .before .before .before .before .before .loop in
     let q = c .before .next .given .0 .0 in
-    let e : nextStep (l .s) (getD text (l .i) 0) ≡ On q = cc in (
+    let e : nextStep (l .s) (getD text (l .i) 0) ≡ On q = sym (c .before .before .before .advance .ensures) ∙ c .before .next .given .1 in (
       omega arith,
       omega (arith, far (l .s) (getD text (l .i) 0) q e),
       fits-next (l .s) (getD text (l .i) 0) q (l .inv .2) e,

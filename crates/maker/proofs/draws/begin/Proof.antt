@@ -38,7 +38,7 @@ returns : tie.Need-returns Inv-loop μ-loop
 returns c =
     let l = c .before .loop in
     let e : l .k ≡ 32 = omega arith in
-    (rw e at (l .inv .3), rw e at (l .inv .2))
+    (rw e at (l .inv .3), rw e at (l .inv .2), l .inv .1)
 
 pub begin-spec : {M : Type 1} → statement M
 begin-spec =

@@ -12,4 +12,4 @@ with-element-spec =
     (λ c. search needs)
     (λ c κs. search needs)
     (λ c κs. search needs)
-    (λ c. cc))
+    (λ c. rw (c .with-term .ensures, c .before .before .left-at .ensures, c .before .element-at .ensures)))

@@ -14,4 +14,4 @@ cast-result c =
 
 pub data-of-spec : {M : Type 1} → statement M
 data-of-spec =
-    tie.close (tie.spec (λ c κs. search needs) (λ c. search needs) (λ c κs. search needs) cast-result (λ c. cc))
+    tie.close (tie.spec (λ c κs. search needs) (λ c. search needs) (λ c κs. search needs) cast-result (λ c. rw (c .data-word .ensures, c .before .op-of .ensures)))

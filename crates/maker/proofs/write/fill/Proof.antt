@@ -1,11 +1,16 @@
 -- The last instruction ends the program; past the slots the memory is 0.
 use mathlib.Core.Path.{ap, _∙_}
 use borrow.Author.Needs.{needs}
-use Rattle.maker.proofs.Filling.{program-ended, cells-ended}
+use Rattle.maker.proofs.Filling.{program-ended, cells-ended, last-lent}
 use Rattle.maker.specs.Drawn.{drawsOf}
 use Rattle.maker.specs.Bytes.{wordBytes}
 use Rattle.maker.proofs.write.fill.Statement.{statement}
 use Rattle.maker.proofs.write.fill.Tie as tie
+
+put-words-requires : tie.Need-put-words-requires
+put-words-requires c κs =
+    let s = c .before .before .before .before .before .before .before .before .before .before .before .before in
+    last-lent (c .before .before .before .before .before .before .before .put-all .last .1 .1 .0) (s .args .n) (c .before .before .before .before .before .before .program .given ∙ s .pre .1) ∙ rw (c .before .before .halt-words .ensures)
 
 returns : tie.Need-returns
 returns c =
@@ -28,13 +33,13 @@ fill-spec =
     (λ c. search needs)
     (λ c. search needs)
     (λ c. search needs)
-    (λ c κs. search needs)
+    put-words-requires
     (λ c. search needs)
     (λ c. search needs)
     (λ c. search needs)
     (λ c. search needs)
     (λ c. search needs)
     (λ c κs. search needs)
-    (λ c. search needs)
-    (λ c. search needs)
+    (λ c. c .before .before .before .before .before .program2 .given .1 ∙ c .before .before .before .before .before .before .before .before .before .before .before .before .before .program .given)
+    (λ c. c .before .memory2 .given .1 ∙ c .before .before .before .before .before .before .before .before .before .before .before .memory .given)
     returns)

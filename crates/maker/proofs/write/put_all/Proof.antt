@@ -1,18 +1,17 @@
 -- The invariant: the state is the one after 32 + 3i draws, i instructions and 32 + 8i cells stand at the front of their
--- buffers, and behind them what stood there. The measure is the instructions left.
-use mathlib.Core.List.{List, _++_}
+-- buffers, and behind them what stood there. The measure is the instructions left. The laws of Filling take what they
+-- need: an `omega` here would read every place before it.
+use mathlib.Core.List.{_++_}
 use mathlib.Core.Path.{refl, _≡_, sym, _∙_}
-use Prim.Native.Nat.{ℕ, _+_, _-_, _*_, _≤_}
+use Prim.Native.Nat.{_+_, _-_, _*_, _≤_}
 use native.Mathlib.Omega.{arith}
 use borrow.Author.Needs.{needs}
-use lib.Seq.{length-take-le}
 use lib.ListN.{length, drop}
 use Rattle.word.specs.Bytes.{concatenated}
-use Rattle.word.proofs.Concatenated.{lent-length}
-use Rattle.maker.proofs.Filling.{program-kept, cells-kept, instruction-next, made-row, cells-begun, first-length, slot-row, slot-next}
+use Rattle.maker.proofs.Filling.{program-on, memory-on, begun-room, begun-lent, cells-begun, first-length, program-room, memory-room, below, fewer, next-below}
 use Rattle.maker.specs.Bytes.{instructionsOf, cellsOf}
 use Rattle.maker.proofs.Drawing.{kind-drawn, a-drawn, c-drawn, after-three}
-use Rattle.maker.proofs.Parts.{front-length, behind}
+use Rattle.maker.proofs.Parts.{behind}
 use Rattle.maker.specs.Drawn.{stateAfter, drawsOf}
 use Rattle.maker.proofs.write.put_all.Statement.{statement}
 use Rattle.maker.proofs.write.put_all.Tie as tie
@@ -32,15 +31,14 @@ abbrev μ-loop : tie.MeasureT-loop
 put-words-requires : tie.Need-put-words-requires Inv-loop μ-loop
 put-words-requires c κs =
     let s = c .before .before .before .before .before .before .before in
-    let long : length (c .before .before .before .before .begin .result .cells) ≡ 32 = search needs in
-    length-take-le 128 (s .args .memory .now) (omega (arith, s .pre)) ∙ omega (arith, long)
+    begun-lent (s .args .memory .now) (s .args .n) (s .pre .2) ∙ rw (c .before .before .before .before .begin .ensures .2)
 
 loop-holds : tie.Need-loop-holds Inv-loop μ-loop
 unfolding concatenated
 loop-holds c =
     let s = c .before .before .before .before .before .before .before .before .before .before .args in
     let begun = c .before .before .before .before .before .before .before .begin in
-    let long : length (begun .result .cells) ≡ 32 = search needs in (
+    let long : length (begun .result .cells) ≡ 32 = begun .ensures .2 in (
       omega arith,
       refl,
       refl,
@@ -52,36 +50,47 @@ loop-holds c =
 put-one-requires : tie.Need-put-one-requires Inv-loop μ-loop
 put-one-requires c κs =
     let l = c .before .before .before .before .before .loop in
+    let t = c .before .before .before .before .loop-test .taken in
+    let s = c .before .before .before .before .before .before .before .before .before .before .before .before .before .before .before .before in
     let e = c .before .before .before .draw-three .ensures in
-    (omega arith, omega (arith, e .1), omega (arith, e .2), lent-length (l .program) (48 * l .i) 48 (omega arith), lent-length (l .memory) (128 + 32 * l .i) 32 (omega arith))
+    let begun = c .before .before .before .before .before .before .before .before .before .before .before .before .before .begin in
+    let first = c .before .before .before .before .before .before .before .before .put-words in
+    let long : length (begun .result .cells) ≡ 32 = begun .ensures .2 in
+    let room = begun-room (drawsOf (s .args .seed)) (s .args .n) (s .args .memory .now) (begun .result .cells) long (first .ensures) (s .pre .2) in (
+      fewer (l .i) (s .args .n) t (s .pre .0),
+      below (c .before .before .before .draw-three .result .a) _ (e .1),
+      below (c .before .before .before .draw-three .result .c) _ (e .2),
+      program-room (l .i) (s .args .n) (length (s .args .program .now)) (length (l .program)) t (s .pre .1) (l .inv .1),
+      memory-room (l .i) (s .args .n) (length (first .last .1 .0 ++ drop 128 (s .args .memory .now))) (length (l .memory)) t room (l .inv .2),
+    )
 
 loop-again : tie.Need-loop-again Inv-loop μ-loop
 loop-again c =
     let l = c .before .before .before .before .before .before .before .before .before .before .before .loop in
-    let s = c .before .before .before .before .before .before .before .before .before .before .before .before .before .before .before .before .before .before .before .before .before .before .args in
-    let pre = c .before .before .before .before .before .before .before .before .before .before .before .before .before .before .before .before .before .before .before .before .before .before .pre in
+    let t = c .before .before .before .before .before .before .before .before .before .before .loop-test .taken in
+    let s = c .before .before .before .before .before .before .before .before .before .before .before .before .before .before .before .before .before .before .before .before .before .before in
+    let seed = s .args .seed in
+    let n = s .args .n in
     let begun = c .before .before .before .before .before .before .before .before .before .before .before .before .before .before .before .before .before .before .before .begin in
     let first = c .before .before .before .before .before .before .before .before .before .before .before .before .before .before .put-words in
     let e = c .before .before .before .before .before .before .before .before .before .draw-three .ensures in
     let d = c .before .before .before .before .before .before .before .before .before .draw-three .result in
-    let put = c .before .before .before .before .before .put-one in
-    let long : length (begun .result .cells) ≡ 32 = search needs in
-    let kind : d .kind ≡ drawsOf (s .seed) .kind (l .i) = (rw (l .inv .3) at (e .0)) ∙ sym (kind-drawn (s .seed) (l .i)) in
-    let a : d .a ≡ drawsOf (s .seed) .a (l .i) = (rw (l .inv .3) at (e .1)) ∙ sym (a-drawn (s .seed) (l .i)) in
-    let c' : d .c ≡ drawsOf (s .seed) .c (l .i) = (rw (l .inv .3) at (e .2)) ∙ sym (c-drawn (s .seed) (l .i)) in
-    let made = made-row (drawsOf (s .seed)) (s .n) (l .i) (d .kind) (d .a) (d .c) (omega arith) kind a c' (put .ensures .0) in
-    let slot = slot-row (drawsOf (s .seed)) (s .n) (begun .result .cells) (begun .ensures .0) (l .i) (d .kind) (d .a) (d .c) (omega arith) kind a c' (omega (arith, e .1)) (omega (arith, e .2)) (put .ensures .1) in
-    let base : List ℕ = first .last .1 .0 ++ drop 128 (s .memory .now) in
-    let kept : length base ≡ length (s .memory .now) =
-    front-length (s .memory .now) (first .last .1 .0) 128 (first-length (drawsOf (s .seed)) (s .n) (begun .result .cells) long (first .ensures)) (omega (arith, pre)) in
-    let program = instruction-next (drawsOf (s .seed)) (s .n) (s .program .now) (l .program) (put .last .1 .1 .1 .0) (l .i) (48 * l .i + 48) (l .inv .4) (omega arith) made in
-    let memory = slot-next (drawsOf (s .seed)) (s .n) base (l .memory) (put .last .1 .1 .1 .1 .0) (l .i) (128 + 32 * l .i + 32) (l .inv .5) (omega arith) slot in (
-      omega arith,
-      program-kept (drawsOf (s .seed)) (s .n) (s .program .now) (l .i + 1) program (omega (arith, pre)),
-      cells-kept (drawsOf (s .seed)) (s .n) base (l .i + 1) memory (omega (arith, pre, kept)),
-      (rw (l .inv .3) at (e .3)) ∙ sym (after-three (s .seed) (l .i)),
-      program,
-      memory,
+    let put = c .before .before .before .before .before .put-one .ensures in
+    let long : length (begun .result .cells) ≡ 32 = begun .ensures .2 in
+    let kind : d .kind ≡ drawsOf seed .kind (l .i) = (rw (l .inv .3) at (e .0)) ∙ sym (kind-drawn seed (l .i)) in
+    let a : d .a ≡ drawsOf seed .a (l .i) = (rw (l .inv .3) at (e .1)) ∙ sym (a-drawn seed (l .i)) in
+    let c' : d .c ≡ drawsOf seed .c (l .i) = (rw (l .inv .3) at (e .2)) ∙ sym (c-drawn seed (l .i)) in
+    let room = begun-room (drawsOf seed) n (s .args .memory .now) (begun .result .cells) long (first .ensures) (s .pre .2) in
+    let program = program-on (drawsOf seed) n (l .i) (d .kind) (d .a) (d .c) t kind a c' (s .args .program .now) (l .program) (s .pre .1) (l .inv .4) (put .0) in
+    let memory =
+    memory-on (drawsOf seed) n (l .i) (d .kind) (d .a) (d .c) t kind a c' (begun .result .cells) (begun .ensures .0) (below (d .a) _ (e .1)) (below (d .c) _ (e .2))
+    (first .last .1 .0 ++ drop 128 (s .args .memory .now)) (l .memory) room (l .inv .5) (put .1) in (
+      next-below (l .i) n t,
+      program .0,
+      memory .0,
+      (rw (l .inv .3) at (e .3)) ∙ sym (after-three seed (l .i)),
+      program .1,
+      memory .1,
     )
 
 returns : tie.Need-returns Inv-loop μ-loop
@@ -90,7 +99,7 @@ returns c =
     let s = c .before .before .before .before .before .before .before .before .before .before .before .before .args in
     let begun = c .before .before .before .before .before .before .before .before .before .begin in
     let first = c .before .before .before .before .put-words in
-    let long : length (begun .result .cells) ≡ 32 = search needs in
+    let long : length (begun .result .cells) ≡ 32 = begun .ensures .2 in
     let e : s .n ≡ l .i = omega arith in
     let front = first-length (drawsOf (s .seed)) (s .n) (begun .result .cells) long (first .ensures) in (
       rw e (l .inv .4),
@@ -111,23 +120,10 @@ put-all-spec =
     put-words-requires
     loop-holds
     (λ c κs. search needs)
-    (λ c. search needs)
-    (λ c. search needs)
-    (λ c. search needs)
-    (λ c. search needs)
-    (λ c. search needs)
-    (λ c. search needs)
-    (λ c. search needs)
-    (λ c. search needs)
-    (λ c. search needs)
-    (λ c. search needs)
-    (λ c. search needs)
-    (λ c. search needs)
-    (λ c. search needs)
     put-one-requires
     (λ c. search needs)
     (λ c. search needs)
     loop-again
-    (λ c. search needs)
-    (λ c. search needs)
+    (λ c. c .before .loop .inv .1)
+    (λ c. c .before .loop .inv .2 ∙ c .before .before .before .memory .given .1)
     returns)
