@@ -21,8 +21,8 @@ ghost use Rattle.rules.specs.Given.{zeroElement?};
 ghost use Rattle.rules.specs.Extension.{selected, compTail};
 ghost use Rattle.judge_ext.specs.ExtParts.{sumOf, productOf, peqOf, operatesThen, accumulatesThen, rowOf, pairedRow};
 
-// A flag times the difference of two elements is 0 in every coordinate. In a table that is accepted the flag is 0 or the
-// two are equal: then nothing is computed.
+// A flag times the difference of two elements is 0 in every coordinate. In a table that is accepted the flag is 0 or
+// the two are equal: then nothing is computed.
 fn gated_elements(flag: u32, a: [u32; 5], b: [u32; 5]) -> bool
     ensures { λ r. ⌜ r ≡ zeroElement? (flag ·ₑ (a -ₑ b)) ⌝ }
 {
