@@ -1,3 +1,4 @@
+pub mod Answered
 pub mod Joined
 pub mod Windows
 pub mod Balance

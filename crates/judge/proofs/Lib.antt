@@ -1,2 +1,3 @@
 pub mod Balances
 pub mod Passed
+pub mod Reached

@@ -1,8 +1,8 @@
 -- The groups of an extension row's rules, by the comparisons that show them.
 -- Assumes nothing.
 use borrow.Author.Tests.{leb-true, ltb-true}
-use mathlib.Core.Path.{_≡_, refl, _∙_}
-use mathlib.Core.Bool.{true, _&&_, cond}
+use mathlib.Core.Path.{_≡_, refl, _∙_, ap}
+use mathlib.Core.Bool.{Bool, true, _&&_, cond}
 use mathlib.Core.List.{List, [], _∷_}
 use Prim.Native.Nat.{ℕ, zero, suc, _<_}
 use native.Mathlib.Omega.{arith}
@@ -18,6 +18,10 @@ use Rattle.rules.specs.Given.{zero?, zeroElement?}
 use Rattle.rules.specs.Extension.{selected, compTail}
 use Rattle.judge_ext.specs.ExtParts.{bitsThen, operatesThen, samesThen, stepsThen}
 use Rattle.judge_lookups.proofs.Quick.{pass, shut-rule, same-rule, same-test}
+
+-- a rule asked before the rules after it
+pub asks : (n : ℕ) {held is : Bool} {rest after f : ℕ} → f ≡ cond held rest n → held ≡ is → rest ≡ after → f ≡ cond is after n
+asks n {held} {is} {rest} {after} e h r = e ∙ ap (λ b. cond b rest n) h ∙ ap (λ z. cond is z n) r
 
 pub bit-rule : (x : ℕ) → leb x 1 ≡ true → zero? (x *ₚ (1 -ₚ x)) ≡ true
 unfolding _-ₚ_ _*ₚ_
@@ -108,6 +112,17 @@ same-elements flag a b e =
       same-test flag (a ⟨ 3 ⟩) (b ⟨ 3 ⟩) (t .1 .1 .1 .0),
       same-test flag (a ⟨ 4 ⟩) (b ⟨ 4 ⟩) (t .1 .1 .1 .1),
     )
+
+-- an element's rule, coordinate by coordinate
+pub each-gated : (flag : ℕ) (a b : List ℕ) {h0 h1 h2 h3 h4 : Bool}
+    → h0 ≡ zero? (flag *ₚ (a ⟨ 0 ⟩ -ₚ b ⟨ 0 ⟩))
+    → h1 ≡ zero? (flag *ₚ (a ⟨ 1 ⟩ -ₚ b ⟨ 1 ⟩))
+    → h2 ≡ zero? (flag *ₚ (a ⟨ 2 ⟩ -ₚ b ⟨ 2 ⟩))
+    → h3 ≡ zero? (flag *ₚ (a ⟨ 3 ⟩ -ₚ b ⟨ 3 ⟩))
+    → h4 ≡ zero? (flag *ₚ (a ⟨ 4 ⟩ -ₚ b ⟨ 4 ⟩))
+    → (h0 && h1 && h2 && h3 && h4) ≡ zeroElement? (flag ·ₑ (a -ₑ b))
+unfolding _-ₑ_ _·ₑ_
+each-gated flag a b e0 e1 e2 e3 e4 = rw (e0, e1, e2, e3, e4)
 
 -- words that a flag of 0 or 1 leaves as they are
 kept : (y a : ℕ) → a < p → a ≡ 0 *ₚ y +ₚ (1 -ₚ 0) *ₚ a

@@ -21,28 +21,32 @@ ghost use Rattle.rules.specs.Given.{zeroElement?};
 ghost use Rattle.rules.specs.Extension.{selected, compTail};
 ghost use Rattle.judge_ext.specs.ExtParts.{sumOf, productOf, peqOf, operatesThen, accumulatesThen, rowOf, pairedRow};
 
-// A flag times the difference of two elements is 0 in every coordinate.
-fn gated_each(flag: u32, a: [u32; 5], b: [u32; 5]) -> bool
-    ensures { λ r. ⌜ r ≡ zeroElement? (flag ·ₑ (a -ₑ b)) ⌝ }
-{
-    gated(flag, a[0], b[0])
-        & gated(flag, a[1], b[1])
-        & gated(flag, a[2], b[2])
-        & gated(flag, a[3], b[3])
-        & gated(flag, a[4], b[4])
-}
-
-// The same. In a table that is accepted the flag is 0 or the two are equal: then nothing is computed.
+// A flag times the difference of two elements is 0 in every coordinate. In a table that is accepted the flag is 0 or
+// the two are equal: then nothing is computed.
 fn gated_elements(flag: u32, a: [u32; 5], b: [u32; 5]) -> bool
     ensures { λ r. ⌜ r ≡ zeroElement? (flag ·ₑ (a -ₑ b)) ⌝ }
 {
     if flag == 0 {
         return true;
     }
-    if (a[0] == b[0]) & (a[1] == b[1]) & (a[2] == b[2]) & (a[3] == b[3]) & (a[4] == b[4]) {
+    let a0 = a[0];
+    let a1 = a[1];
+    let a2 = a[2];
+    let a3 = a[3];
+    let a4 = a[4];
+    let b0 = b[0];
+    let b1 = b[1];
+    let b2 = b[2];
+    let b3 = b[3];
+    let b4 = b[4];
+    if (a0 == b0) & (a1 == b1) & (a2 == b2) & (a3 == b3) & (a4 == b4) {
         return true;
     }
-    gated_each(flag, a, b)
+    gated(flag, a0, b0)
+        & gated(flag, a1, b1)
+        & gated(flag, a2, b2)
+        & gated(flag, a3, b3)
+        & gated(flag, a4, b4)
 }
 
 // Each rule is open on few rows: where its flag is 0 nothing is computed.
@@ -98,7 +102,7 @@ fn selected_element(x: Ext) -> [u32; 5]
     let base: [u32; 5] = [x.base, 0, 0, 0, 0];
     let left = x.vA;
     if (x.be == 0) & is_element(left) {
-        return [left[0], left[1], left[2], left[3], left[4]];
+        return left;
     }
     if (x.be == 1) & (x.base < 2130706433) {
         return base;
@@ -112,7 +116,7 @@ fn tail_of(y: Ext) -> [u32; 5]
 {
     let next = y.comp;
     if (y.start == 0) & is_element(next) {
-        return [next[0], next[1], next[2], next[3], next[4]];
+        return next;
     }
     scale(sub(1, y.start), next)
 }

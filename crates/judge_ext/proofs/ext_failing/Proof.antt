@@ -1,18 +1,23 @@
 -- Comparisons that say yes leave rules 6 to 9; the groups that the code walks are the rules.
 use borrow.Author.Needs.{needs}
-use mathlib.Core.Path.{sym}
-use Rattle.rules.specs.Extension.{extRules}
+use mathlib.Core.Path.{_∙_, ap}
+use Prim.Native.Nat.{_*_}
+use Rattle.rows.specs.Rows.{extAt}
+use Rattle.judge_ext.proofs.AllRules.{compared}
 use Rattle.judge_ext.proofs.ext_failing.Statement.{statement}
 use Rattle.judge_ext.proofs.ext_failing.Tie as tie
 
 returns : tie.Need-returns
-unfolding extRules
 returns c =
     let held = c .before .before in
     let paired = held .before in
-    rw (c .accumulates .ensures)
-    (rw (paired .ext-inside2 .ensures, paired .before .next-row .ensures .0, paired .before .before .ext-inside .ensures)
-    at (sym (held .others-hold .ensures (c .before .if1 .taken))))
+    let row = paired .before .before in
+    let args = row .before .before .before .args in
+    compared (args .ext .now) (args .r) (args .memory .now)
+    (row .ext-inside .ensures)
+    (paired .ext-inside2 .ensures ∙ ap (λ k. extAt (args .ext .now) (120 * k)) (paired .before .next-row .ensures .0))
+    (held .others-hold .ensures (c .before .if1 .taken))
+    (c .accumulates .ensures)
 
 pub ext-failing-spec : {M : Type 1} → statement M
 ext-failing-spec =

@@ -1,14 +1,13 @@
 -- With no operation rules 6 to 8 say nothing; else each call gives the definition's part.
-use mathlib.Core.Bool.{cond}
+use borrow.Author.Needs.{needs}
 use borrow.Author.Tests.{eqb-true}
-use mathlib.Core.Path.{_≡_, _∙_}
+use mathlib.Core.Path.{_∙_, ap}
 use mathlib.Core.List.{[], _∷_}
+use Prim.Native.Nat.{_*_}
 use lib.Dec.{eqb}
 use Rattle.word.proofs.Tests.{each}
-use Rattle.rules.specs.Given.{zeroElement?}
-use Rattle.judge_ext.specs.ExtParts.{resultOf, pairedRow}
-use Rattle.judge_ext.proofs.QuickExt.{no-operation}
-use borrow.Author.Needs.{needs}
+use Rattle.rows.specs.Rows.{extAt}
+use Rattle.judge_ext.proofs.AllRules.{idle, operated}
 use Rattle.judge_ext.proofs.accumulation.accumulates.Statement.{statement}
 use Rattle.judge_ext.proofs.accumulation.accumulates.Tie as tie
 
@@ -19,24 +18,26 @@ returns c =
     let args = inside .before .before .args in
     let x = inside .ext-inside .result in
     let off = each (eqb (x .add) 0) (eqb (x .mul) 0 ∷ eqb (x .peq) 0 ∷ []) (c .if1 .taken) in
-    let rule-9 : after .first-of .result ≡ cond (zeroElement? (resultOf (x .start) (x .comp) (x .res))) (args .rest) 9 =
-    rw (after .first-of .ensures, after .before .gated-elements .ensures) in
-    rw (← inside .ext-inside .ensures)
-    (rule-9 ∙ no-operation x (pairedRow (args .ext .now) (args .r)) _ _ _ (eqb-true _ _ (off .0)) (eqb-true _ _ (off .1 .0)) (eqb-true _ _ (off .1 .1)))
+    idle (args .ext .now) (args .r) (args .rest)
+    (inside .ext-inside .ensures)
+    (after .before .gated-elements .ensures)
+    (after .first-of .ensures)
+    (eqb-true _ _ (off .0))
+    (eqb-true _ _ (off .1 .0))
+    (eqb-true _ _ (off .1 .1))
 
 returns-2 : tie.Need-returns-2
 returns-2 c =
     let paired = c .before in
     let after = paired .before .before .before .before .before .before in
     let inside = after .before .before .before .before in
-    rw (
-      c .operates .ensures,
-      after .first-of .ensures,
-      after .before .gated-elements .ensures,
-      paired .ext-inside2 .ensures,
-      paired .before .next-row .ensures .0,
-      inside .ext-inside .ensures,
-    )
+    let args = inside .before .before .args in
+    operated (args .ext .now) (args .r) (args .rest)
+    (inside .ext-inside .ensures)
+    (paired .ext-inside2 .ensures ∙ ap (λ k. extAt (args .ext .now) (120 * k)) (paired .before .next-row .ensures .0))
+    (after .before .gated-elements .ensures)
+    (after .first-of .ensures)
+    (c .operates .ensures)
 
 pub accumulates-spec : {M : Type 1} → statement M
 accumulates-spec =

@@ -5,6 +5,7 @@ use mathlib.Core.Path.{sym, _∙_}
 use mathlib.Core.List.{[], _∷_}
 use lib.Dec.{eqb, ltb}
 use Rattle.word.specs.Word.{p}
+use Rattle.word.proofs.ElementLaws.{its-words}
 use Rattle.word.proofs.Tests.{each}
 use Rattle.judge_ext.proofs.QuickExt.{own-words, base-word}
 use Rattle.judge_ext.proofs.accumulation.selected_element.Statement.{statement}
@@ -15,7 +16,7 @@ returns c =
     let x = c .before .before .before .before .args .x in
     let is-element = c .before .is-element in
     let t = each (eqb (x .be) 0) (is-element .result ∷ []) (c .if1 .taken) in
-    own-words x (eqb-true (x .be) 0 (t .0)) (sym (is-element .ensures) ∙ t .1)
+    its-words (x .vA) (search needs) ∙ own-words x (eqb-true (x .be) 0 (t .0)) (sym (is-element .ensures) ∙ t .1)
 
 returns-2 : tie.Need-returns-2
 returns-2 c =
@@ -31,11 +32,6 @@ selected-element-spec =
     tie.close
     (tie.spec
     (λ c κs. search needs)
-    (λ c. search needs)
-    (λ c. search needs)
-    (λ c. search needs)
-    (λ c. search needs)
-    (λ c. search needs)
     returns
     returns-2
     (λ c κs. search needs)

@@ -4,6 +4,7 @@ use borrow.Author.Tests.{eqb-true}
 use mathlib.Core.Path.{sym, _∙_}
 use mathlib.Core.List.{[], _∷_}
 use lib.Dec.{eqb}
+use Rattle.word.proofs.ElementLaws.{its-words}
 use Rattle.word.proofs.Tests.{each}
 use Rattle.judge_ext.proofs.QuickExt.{own-tail}
 use Rattle.judge_ext.proofs.accumulation.tail_of.Statement.{statement}
@@ -14,7 +15,7 @@ returns c =
     let y = c .before .before .before .before .args .y in
     let is-element = c .before .is-element in
     let t = each (eqb (y .start) 0) (is-element .result ∷ []) (c .if1 .taken) in
-    own-tail y (eqb-true (y .start) 0 (t .0)) (sym (is-element .ensures) ∙ t .1)
+    its-words (y .comp) (search needs) ∙ own-tail y (eqb-true (y .start) 0 (t .0)) (sym (is-element .ensures) ∙ t .1)
 
 returns-2 : tie.Need-returns-2
 returns-2 c = rw (c .scale .ensures, c .before .sub .ensures)
@@ -24,11 +25,6 @@ tail-of-spec =
     tie.close
     (tie.spec
     (λ c κs. search needs)
-    (λ c. search needs)
-    (λ c. search needs)
-    (λ c. search needs)
-    (λ c. search needs)
-    (λ c. search needs)
     returns
     (λ c κs. search needs)
     (λ c κs. search needs)

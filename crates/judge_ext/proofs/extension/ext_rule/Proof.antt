@@ -1,24 +1,28 @@
 -- The groups that the code walks are the rules; each call gives the definition's part.
 use borrow.Author.Needs.{needs}
-use Rattle.rules.specs.Extension.{extRules}
+use mathlib.Core.Path.{_∙_, ap}
+use Prim.Native.Nat.{_*_}
+use Rattle.rows.specs.Rows.{extAt}
+use Rattle.judge_ext.proofs.AllRules.{walked}
 use Rattle.judge_ext.proofs.extension.ext_rule.Statement.{statement}
 use Rattle.judge_ext.proofs.extension.ext_rule.Tie as tie
 
 returns : tie.Need-returns
-unfolding extRules
 returns c =
-    let paired = c .before .before .before .before .before .before in
-    rw (
-      c .ext-lookups .ensures,
-      c .before .bits .ensures,
-      c .before .before .accumulates .ensures,
-      c .before .before .before .sames .ensures,
-      c .before .before .before .before .steps .ensures,
-      c .before .before .before .before .before .sub .ensures,
-      paired .ext-inside2 .ensures,
-      paired .before .next-row .ensures .0,
-      paired .before .before .ext-inside .ensures,
-    )
+    let after = c .before .before in
+    let step = after .before .before in
+    let paired = step .before .before in
+    let row = paired .before .before in
+    let args = row .before .before .before .args in
+    walked (args .ext .now) (args .r) (args .memory .now)
+    (row .ext-inside .ensures)
+    (paired .ext-inside2 .ensures ∙ ap (λ k. extAt (args .ext .now) (120 * k)) (paired .before .next-row .ensures .0))
+    (step .before .sub .ensures)
+    (step .steps .ensures)
+    (after .before .sames .ensures)
+    (after .accumulates .ensures)
+    (c .before .bits .ensures)
+    (c .ext-lookups .ensures)
 
 pub ext-rule-spec : {M : Type 1} → statement M
 ext-rule-spec =
