@@ -8,6 +8,25 @@ ghost use Rattle.label.specs.Reader.{hexValue, decimalValue, form};
 // A label up to its n, with a dot for a digit.
 pub const FORM: [u8; 33] = *b"v=1\nseed=................\nm=..\nn=";
 
+// The value of a lower-case hex digit, 16 for any other byte.
+pub(crate) fn hex_value(byte: u8) -> u64
+    ensures { λ r. ⌜ (r ≡ hexValue byte) × (r ≤ 16) ⌝ }
+{
+    if byte < 48 {
+        return 16;
+    }
+    if byte < 58 {
+        return (byte - 48) as u64;
+    }
+    if byte < 97 {
+        return 16;
+    }
+    if byte < 103 {
+        return (byte - 87) as u64;
+    }
+    16
+}
+
 // Whether a byte is a lower-case hex digit, with no branch: sixteen bytes are tested at once.
 pub(crate) fn is_hex(byte: u8) -> bool
     ensures { λ r. ⌜ r ≡ ltb (hexValue byte) 16 ⌝ }

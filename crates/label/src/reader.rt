@@ -55,10 +55,11 @@ fn seed_digit(s: Progress, byte: u8) -> Step
     requires { ⌜ (s .at < 33) × (s .seed < 2 ^ 60) ⌝ }
     ensures { λ r. ⌜ r ≡ nextSeed s byte ⌝ }
 {
-    if digit::is_hex(byte) {
+    let d = digit::hex_value(byte);
+    if d < 16 {
         return Step::On(Progress {
             at: s.at + 1,
-            seed: 16 * s.seed + digit::known_hex(byte),
+            seed: 16 * s.seed + d,
             m: s.m,
             n: s.n,
         });
