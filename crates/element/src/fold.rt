@@ -19,22 +19,29 @@ fn two(x: u32, y: u32, v: u32, w: u32) -> u32
 fn coefficients(a: [u32; 5], b: [u32; 5]) -> [u32; 9]
     ensures { λ r. ⌜ r ≡ nine a b ⌝ }
 {
-    let c3 = two(a[0], b[3], a[1], b[2]);
-    let c4 = two(a[0], b[4], a[1], b[3]);
-    let c5 = two(a[1], b[4], a[2], b[3]);
+    let a0 = a[0];
+    let a1 = a[1];
+    let a2 = a[2];
+    let a3 = a[3];
+    let a4 = a[4];
+    let b0 = b[0];
+    let b1 = b[1];
+    let b2 = b[2];
+    let b3 = b[3];
+    let b4 = b[4];
+    let c3 = two(a0, b3, a1, b2);
+    let c4 = two(a0, b4, a1, b3);
+    let c5 = two(a1, b4, a2, b3);
     [
-        word::mul(a[0], b[0]),
-        two(a[0], b[1], a[1], b[0]),
-        word::add(two(a[0], b[2], a[1], b[1]), word::mul(a[2], b[0])),
-        word::add(c3, two(a[2], b[1], a[3], b[0])),
-        word::add(
-            word::add(c4, two(a[2], b[2], a[3], b[1])),
-            word::mul(a[4], b[0]),
-        ),
-        word::add(c5, two(a[3], b[2], a[4], b[1])),
-        word::add(two(a[2], b[4], a[3], b[3]), word::mul(a[4], b[2])),
-        two(a[3], b[4], a[4], b[3]),
-        word::mul(a[4], b[4]),
+        word::mul(a0, b0),
+        two(a0, b1, a1, b0),
+        word::add(two(a0, b2, a1, b1), word::mul(a2, b0)),
+        word::add(c3, two(a2, b1, a3, b0)),
+        word::add(word::add(c4, two(a2, b2, a3, b1)), word::mul(a4, b0)),
+        word::add(c5, two(a3, b2, a4, b1)),
+        word::add(two(a2, b4, a3, b3), word::mul(a4, b2)),
+        two(a3, b4, a4, b3),
+        word::mul(a4, b4),
     ]
 }
 
