@@ -21,7 +21,7 @@
 #include <stdint.h>
 
 /* The version of this header and of the library it was made for. */
-#define UISNABAR_VERSION "1.0.0"
+#define UISNABAR_VERSION "1.0.1"
 /* The length of `answer`, and of `recipe`. Later versions may ask for more: use these names, and no number. */
 #define UISNABAR_ANSWER_BYTES 16
 #define UISNABAR_RECIPE_BYTES 16

@@ -34,18 +34,18 @@ pub product-difference : (x y z : ℕ) → (x -ₚ y) *ₚ z ≡ x *ₚ z -ₚ y
 unfolding _-ₚ_ _*ₚ_
 product-difference x y z = mod-mul (x + (p - y % p)) z p ∙ spread x y z (p - y % p) (omega arith)
 
-sum-difference-right : (x y z : ℕ) → x +ₚ (y -ₚ z) ≡ x +ₚ y -ₚ z
+pub sum-difference-right : (x y z : ℕ) → x +ₚ (y -ₚ z) ≡ x +ₚ y -ₚ z
 unfolding _+ₚ_ _-ₚ_
 sum-difference-right x y z = omega arith
 
-sum-difference-left : (x y z : ℕ) → x -ₚ y +ₚ z ≡ x +ₚ z -ₚ y
+pub sum-difference-left : (x y z : ℕ) → x -ₚ y +ₚ z ≡ x +ₚ z -ₚ y
 unfolding _+ₚ_ _-ₚ_
 sum-difference-left x y z = omega arith
 
 opposite-sum : (y z : ℕ) → (p - y % p + (p - z % p)) % p ≡ (p - (y + z) % p % p) % p
 opposite-sum y z = opposite (p - y % p + (p - z % p)) (y % p + z % p) (y + z) 2 (omega arith) (omega arith)
 
-difference-twice : (x y z : ℕ) → x -ₚ y -ₚ z ≡ x -ₚ (y +ₚ z)
+pub difference-twice : (x y z : ℕ) → x -ₚ y -ₚ z ≡ x -ₚ (y +ₚ z)
 unfolding _+ₚ_ _-ₚ_
 difference-twice x y z =
     mod-left (x + (p - y % p)) (p - z % p)
@@ -56,7 +56,7 @@ opposite-difference : (y z : ℕ) → (z + (p - y % p)) % p ≡ (p - (y + (p - z
 opposite-difference y z =
     opposite (z + (p - y % p)) (y % p + (p - z % p)) (y + (p - z % p)) (2 + z / p) (omega arith) (mod-left y (p - z % p))
 
-difference-back : (x y z : ℕ) → x -ₚ (y -ₚ z) ≡ x +ₚ z -ₚ y
+pub difference-back : (x y z : ℕ) → x -ₚ (y -ₚ z) ≡ x +ₚ z -ₚ y
 unfolding _+ₚ_ _-ₚ_
 difference-back x y z =
     class x (p - (y + (p - z % p)) % p % p) (z + (p - y % p)) (sym (opposite-difference y z))

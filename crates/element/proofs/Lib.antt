@@ -1,2 +1,2 @@
-pub mod WholeSums
 pub mod DifferenceLaws
+pub mod FoldedSums

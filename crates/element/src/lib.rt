@@ -1,5 +1,4 @@
 // Extension elements: five words by value, lowest power first.
-mod direct;
 mod fold;
 
 pub use fold::product;
