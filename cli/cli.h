@@ -37,12 +37,50 @@ int written(void);
 
 /* the subcommands, over the words after their name; each gives the exit status */
 int judge(int count, char **words);
+int count_forms(int count, char **words);
+int report_forms(int count, char **words);
 int label(int count, char **words);
+
+/* tables.c: a subcommand's words, and the tables in the files that they name; 0, or FAILED with the sentence said */
+#define TABLES "PROGRAM MEMORY EXEC EXT, or TABLES alone"
+struct request {
+    const char *name, *takes; /* the subcommand, and its files as a sentence names them */
+    int grids;                /* how many files stand before the tables: count's grid, and then there is no --paste */
+    const char *files[PARTS];
+    int count;
+    bool paste;
+    struct given given;
+};
+int take_tables(int count, char **words, struct request *request);
 
 /* files.c: 0, or FAILED with the sentence said */
 #define LOST "a file became shorter, or could not be read, while it was judged"
 int map_file(const char *path, struct bytes *file);
 int read_text(const char *path, uint8_t *text, size_t room, size_t *len);
+
+/* grid.c: a grid in a file, and what is to replace it, which no two counts have at once */
+struct grid {
+    const char *path;
+    char next[4096]; /* the name of what replaces it, in the same folder */
+    int file;        /* that file, open and locked */
+    bool fresh;      /* there was no grid */
+    unsigned mode;   /* else its permissions */
+    uint8_t bytes[UISNABAR_GRID_BYTES];
+};
+int read_grid(const char *path, uint8_t bytes[UISNABAR_GRID_BYTES]);
+int take_grid(const char *path, struct grid *grid);
+int prepare_grid(struct grid *grid); /* writes the bytes to what replaces the grid */
+int replace_grid(struct grid *grid); /* either of these two ends it */
+void leave_grid(struct grid *grid);
+
+/* forms.c: what a grid's counters stand for */
+#define TOTAL_MOST ((UINT64_C(1) << 63) - 1)
+struct reach {
+    unsigned possible, reached, strange; /* forms that an instruction can have, those counted, other counters not 0 */
+};
+uint64_t total_of(const uint8_t grid[UISNABAR_GRID_BYTES]);
+struct reach reach_of(const uint8_t grid[UISNABAR_GRID_BYTES]);
+void print_missing(FILE *out, const uint8_t grid[UISNABAR_GRID_BYTES]);
 
 /* sum.c: the SHA-256 of some bytes by the system's sha256sum; 0, or FAILED with the sentence said */
 enum { SUM_DIGITS = 64 };
@@ -68,6 +106,9 @@ void print_lines(struct answer answer);
 
 /* sentences.c: one line, with its LF */
 void judge_sentence(FILE *out, const struct given *given, struct answer answer);
+void count_sentence(FILE *out, const struct given *given, struct answer answer,
+                    const uint8_t grid[UISNABAR_GRID_BYTES]);
+void report_sentence(FILE *out, const uint8_t grid[UISNABAR_GRID_BYTES]);
 void label_sentence(FILE *out, struct bytes text, struct answer answer, const uint8_t *recipe);
 
 /* paste.c: the text to send in a dispute */

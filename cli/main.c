@@ -13,6 +13,9 @@
 static const char help[] =
     "usage: uisnabar judge [--pc N] [--fp N] [--paste] PROGRAM MEMORY EXEC EXT\n"
     "       uisnabar judge [--pc N] [--fp N] [--paste] TABLES\n"
+    "       uisnabar count GRID [--pc N] [--fp N] PROGRAM MEMORY EXEC EXT\n"
+    "       uisnabar count GRID [--pc N] [--fp N] TABLES\n"
+    "       uisnabar report GRID\n"
     "       uisnabar label [FILE]\n"
     "       uisnabar --version | --help\n"
     "\n"
@@ -22,11 +25,24 @@ static const char help[] =
     "          --pc N, --fp N   the start, decimal; 0 where it is not given\n"
     "          --paste          also prints a text to send in a dispute: version, size and SHA-256 of each part (by the\n"
     "                           system's sha256sum), start, answer, the row and its successor, the instruction\n"
+    "count   Judges as judge does. Where it accepts, each execution row adds one to its instruction's form in GRID, a file\n"
+    "        of 1080 bytes that is made where there is none. GRID is replaced whole, and only with status 0. Counts into one\n"
+    "        grid wait for one another, and .GRID.counting stands beside it meanwhile; the next takes over a killed one's.\n"
+    "report  The counters of GRID that are not 0, a line each, as add.cell.imm.fp=12: kind, and mode of A, B and C. On\n"
+    "        standard error how many of the 50 possible forms were reached, and a line for each that was not.\n"
     "label   Is the text a label? Without FILE it is read from standard input.\n"
     "\n"
-    "Standard output has the answer's lines, as the replay program prints them; standard error one sentence that says what\n"
-    "they mean. Files are mapped, not copied: they must not change while they are judged. One that becomes shorter is noticed.\n"
+    "Standard output has the answer's lines, as the replay program prints them, or the report; standard error one sentence\n"
+    "that says what they mean. Tables are mapped, not copied: they must not change while they are judged. A file that becomes\n"
+    "shorter is noticed.\n"
     "Exit status: 0 accepted, 1 refused, 2 usage, or something could not be read or written.\n";
+
+/* the subcommands by name */
+static const struct {
+    const char *name;
+    int (*run)(int count, char **words);
+} commands[] = {{"judge", judge}, {"count", count_forms}, {"report", report_forms}, {"label", label}};
+enum { COMMANDS = sizeof commands / sizeof commands[0] };
 
 int failed(const char *format, ...)
 {
@@ -66,14 +82,16 @@ int main(int count, char **words)
 {
     static char output[1 << 16];
     const char *what = count > 1 ? words[1] : "", *of = count > 2 ? words[2] : "";
+    size_t named = 0;
     setvbuf(stdout, output, _IOFBF, sizeof output); /* written whole, at the end */
     fill_streams();
     signal(SIGPIPE, SIG_IGN); /* output that nobody reads is a status, no signal */
-    bool named = is(what, "judge") || is(what, "label");
-    if ((count == 2 && is(what, "--help")) || (count == 3 && named && is(of, "--help")))
+    while (named < COMMANDS && !is(what, commands[named].name))
+        named++;
+    if ((count == 2 && is(what, "--help")) || (count == 3 && named < COMMANDS && is(of, "--help")))
         fputs(help, stdout);
-    else if (named)
-        return is(what, "judge") ? judge(count - 2, words + 2) : label(count - 2, words + 2);
+    else if (named < COMMANDS)
+        return commands[named].run(count - 2, words + 2);
     else if (count == 2 && is(what, "--version"))
         printf("uisnabar %s, %s\n", UISNABAR_VERSION, DRAFT);
     else

@@ -110,6 +110,31 @@ void judge_sentence(FILE *out, const struct given *given, struct answer answer)
     }
 }
 
+void count_sentence(FILE *out, const struct given *given, struct answer answer, const uint8_t grid[UISNABAR_GRID_BYTES])
+{
+    if (answer.verdict == UISNABAR_ACCEPTED)
+        fprintf(out, "ACCEPTED: %zu rows were counted, and the grid's total is now %ju\n", rows_of(given, EXEC), (uintmax_t)total_of(grid));
+    else if (answer.verdict == UISNABAR_GRID)
+        fprintf(out, "GRID: %zu rows more would bring the grid's total above %ju: nothing was counted; begin a new grid\n",
+                rows_of(given, EXEC), (uintmax_t)TOTAL_MOST);
+    else
+        judge_sentence(out, given, answer);
+}
+
+void report_sentence(FILE *out, const uint8_t grid[UISNABAR_GRID_BYTES])
+{
+    struct reach reach = reach_of(grid);
+    uint64_t total = total_of(grid);
+    fprintf(out, "%u of the %u possible forms were reached, in ", reach.reached, reach.possible);
+    if (total > TOTAL_MOST)
+        fprintf(out, "more than %ju rows, which no count gives", (uintmax_t)TOTAL_MOST);
+    else
+        fprintf(out, "%ju rows", (uintmax_t)total);
+    if (reach.strange > 0)
+        fprintf(out, "; %u counters of other forms are not 0, which no count gives", reach.strange);
+    fputc('\n', out);
+}
+
 void label_sentence(FILE *out, struct bytes text, struct answer answer, const uint8_t *recipe)
 {
     fprintf(out, "%s: ", uisnabar_name(answer.verdict));

@@ -1,7 +1,8 @@
-/* Uisnabar's C library: the judge of leanVM tables and the reader of labels.
+/* Uisnabar's C library: the judge of leanVM tables, counts of the instruction forms that they reach, and the reader of
+ * labels.
  *
  * Link with libuisnabar.a, as `./bench lib` builds it (x86-64, System V calls); where it is installed, pkg-config
- * knows it as uisnabar. Both functions return; they keep nothing between calls and use no heap; they may be called
+ * knows it as uisnabar. Every function returns; they keep nothing between calls and use no heap; they may be called
  * from several threads at once. CHANGELOG.md says what a driver's author has to change from one version to the next.
  *
  * Buffers. Each is a pointer and its length in bytes. The caller owns every buffer and may free or change it once the
@@ -21,12 +22,17 @@
 #include <stdint.h>
 
 /* The version of this header and of the library it was made for. */
-#define UISNABAR_VERSION "1.0.1"
+#define UISNABAR_VERSION "1.1.0"
 /* The length of `answer`, and of `recipe`. Later versions may ask for more: use these names, and no number. */
 #define UISNABAR_ANSWER_BYTES 16
 #define UISNABAR_RECIPE_BYTES 16
-/* A call uses no more stack than this. */
+/* The length of `grid` and of `written`, and of the longest report that there is. */
+#define UISNABAR_GRID_BYTES 1080
+#define UISNABAR_WRITTEN_BYTES 8
+#define UISNABAR_REPORT_BYTES 5076
+/* A call uses no more stack than this; uisnabar_count, which holds a grid beside the judge, no more than the second. */
 #define UISNABAR_STACK_BYTES 24576
+#define UISNABAR_COUNT_STACK_BYTES 25600
 
 #ifdef __cplusplus
 extern "C" {
@@ -36,7 +42,7 @@ extern "C" {
  * 9 to 11, and the replay program prints 12. */
 enum uisnabar_verdict {
     UISNABAR_ACCEPTED = 0,
-    UISNABAR_SIZE = 1,        /* part: the lowest of bad length */
+    UISNABAR_SIZE = 1,        /* part: the lowest of bad length; part 5, place: bytes that `text` would need */
     UISNABAR_WORD = 2,        /* part, place: the first word at or above p, by part */
     UISNABAR_INSTRUCTION = 3, /* part 1, place: the first malformed instruction */
     UISNABAR_START = 4,       /* row 0 of the execution table isn't the start */
@@ -48,7 +54,8 @@ enum uisnabar_verdict {
     UISNABAR_ROOM = 10,
     UISNABAR_OPEN = 11,
     UISNABAR_SELF = 12,
-    UISNABAR_ANSWER = 13      /* `answer` or `recipe` is of another length; nothing is written */
+    UISNABAR_ANSWER = 13,     /* a buffer of fixed length is of another; nothing is written */
+    UISNABAR_GRID = 14        /* the counters' total would pass 2^63 - 1 */
 };
 
 /* A verdict's name. */
@@ -69,6 +76,7 @@ static inline const char *uisnabar_name(uint32_t verdict)
     case UISNABAR_OPEN: return "OPEN";
     case UISNABAR_SELF: return "SELF";
     case UISNABAR_ANSWER: return "ANSWER";
+    case UISNABAR_GRID: return "GRID";
     }
     return "unknown";
 }
@@ -92,6 +100,37 @@ static inline const char *uisnabar_name(uint32_t verdict)
 uint32_t uisnabar_judge(const uint8_t *program, size_t program_len, const uint8_t *memory, size_t memory_len,
                         uint64_t pc, uint64_t fp, const uint8_t *exec, size_t exec_len,
                         const uint8_t *ext, size_t ext_len, uint8_t *answer, size_t answer_len);
+
+/* Form counts over a campaign: judges as uisnabar_judge does, and where it accepts adds to the grid one for each
+ * execution row, to the counter of its instruction's form; halting rows too.
+ *
+ *   program to ext   as the judge takes them
+ *   grid     UISNABAR_GRID_BYTES: 135 counters of 8 bytes, little-endian; all zero in a fresh grid. Counter 27·kind +
+ *            9·A + 3·B + C, kind: add 0, mul 1, deref 2, jump 3, extension 4; A, B, C, the operands' modes: immediate
+ *            0, cell 1, fp-relative 2. Written on ACCEPTED alone, else as it was; it may hold anything
+ *   answer   UISNABAR_ANSWER_BYTES, written on every verdict but ANSWER
+ *
+ * Returns the judge's verdict; GRID, tested last, where the sum of all counters and the rows would pass 2^63 - 1; or
+ * ANSWER where grid_len or answer_len is another; nothing is written then.
+ */
+uint32_t uisnabar_count(const uint8_t *program, size_t program_len, const uint8_t *memory, size_t memory_len,
+                        uint64_t pc, uint64_t fp, const uint8_t *exec, size_t exec_len,
+                        const uint8_t *ext, size_t ext_len, uint8_t *grid, size_t grid_len,
+                        uint8_t *answer, size_t answer_len);
+
+/* A grid's report: for each counter that is not zero, in the grid's order, a line such as `add.cell.imm.fp=12`, ended
+ * by LF. Kinds are add, mul, deref, jump and ext, modes imm, cell and fp.
+ *
+ *   grid     as above; it may hold anything
+ *   text     any length, at most UISNABAR_REPORT_BYTES are ever needed; bytes after the report keep what they held
+ *   written  UISNABAR_WRITTEN_BYTES, little-endian: the report's length, 0 on SIZE
+ *   answer   UISNABAR_ANSWER_BYTES, written on every verdict but ANSWER
+ *
+ * Returns ACCEPTED; SIZE part 5 with the bytes needed as place, and text as it was, where text_len is less; or ANSWER
+ * where grid_len, written_len or answer_len is another; nothing is written then.
+ */
+uint32_t uisnabar_report(const uint8_t *grid, size_t grid_len, uint8_t *text, size_t text_len,
+                         uint8_t *written, size_t written_len, uint8_t *answer, size_t answer_len);
 
 /* The label reader.
  *

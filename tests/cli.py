@@ -1,7 +1,7 @@
 """The command `uisnabar`, run: `python3 tests/cli.py target/cli/uisnabar`, or an emulator's words before it.
 
 Answers are computed by tests/oracle.py, sentences taken from docs/VERDICTS.md, sums from Python's own SHA-256. It works
-in a folder of its own."""
+in a folder of its own. Counts and reports are in tests/cli_forms.py."""
 import os
 import pathlib
 import re
@@ -11,44 +11,12 @@ import tempfile
 
 sys.dont_write_bytecode = True
 import cli_cases
+import cli_forms
+import cli_run
 import oracle
 import shelf
+from cli_run import COMMAND, FILES, PATH, ROOT, check, could_not, run, write
 from trials_parts import each_kind
-
-ROOT = pathlib.Path(__file__).resolve().parent.parent
-COMMAND = [os.path.abspath(word) if os.path.exists(word) else word for word in sys.argv[1:]]
-FILES = ("program", "memory", "exec", "ext")
-PATH = os.environ["PATH"]
-SENTENCE = re.compile(r"uisnabar: [^\n]+\n")
-tried, faults = 0, []
-
-
-def run(*words, stdin=b"", stdout=subprocess.PIPE, path=PATH):
-    """(status, standard output, standard error)."""
-    given = {"input": stdin} if isinstance(stdin, bytes) else {"stdin": stdin}
-    done = subprocess.run([*COMMAND, *words], stdout=stdout, stderr=subprocess.PIPE, env={**os.environ, "PATH": path}, timeout=120,
-                          check=False, **given)
-    return done.returncode, done.stdout, done.stderr.decode()
-
-
-def check(name, found, wanted):
-    global tried
-    tried += 1
-    if found != wanted:
-        faults.append(f"{name}: {found}, not {wanted}")
-
-
-def could_not(name, found, about):
-    """Status 2, nothing on standard output, and one sentence that has the words."""
-    status, out, said = found
-    check(name, (status, out or b"", bool(SENTENCE.fullmatch(said)), about in said), (2, b"", True, True))
-    if about not in said:
-        faults.append(f"{name}: said {said!r}")
-
-
-def write(parts):
-    for name, part in zip(FILES, parts):
-        pathlib.Path(name).write_bytes(part)
 
 
 def judged():
@@ -127,7 +95,7 @@ def numbers():
 def usage():
     status, out, said = run()
     check("no word", (status, out, said.startswith("usage: uisnabar judge")), (2, b"", True))
-    for words in (("--help",), ("judge", "--help"), ("label", "--help")):
+    for words in (("--help",), *((name, "--help") for name in ("judge", "count", "report", "label"))):
         check(f"{words}", run(*words), (0, said.encode(), ""))
     for words in (("judged",), ("--help", "more"), ("--version", "more"), ("",), ("-v",)):
         check(f"{words}", run(*words), (2, b"", said))
@@ -230,11 +198,11 @@ def main():
         os.chdir(folder)
         os.mkdir("folder")
         pathlib.Path("folder/read").write_bytes(b"")
-        for group in (judged, tables, labels, numbers, usage, files, streams, closed, sums, pages):
+        for group in (judged, tables, labels, numbers, usage, files, streams, closed, sums, pages, *cli_forms.GROUPS):
             group()
         os.chdir(ROOT)
-    print("\n".join(faults + [f"{tried} tried, {len(faults)} faults"]))
-    return 1 if faults else 0
+    print("\n".join(cli_run.faults + [f"{cli_run.tried} tried, {len(cli_run.faults)} faults"]))
+    return 1 if cli_run.faults else 0
 
 
 if __name__ == "__main__":

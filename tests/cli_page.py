@@ -2,13 +2,16 @@
 
 Rule numbers and order, and the columns that a rule reads, are those of crates/rules/specs; the draft's formulas,
 evaluated on drawn words, are the polynomials of tests/oracle.py; the plain words are cli/sentences.c's, the layouts
-cli/layout.c's; every definition and theorem named there and in docs/DISPUTE.md is in the file named."""
+cli/layout.c's; its forms are those that the second implementation finds possible; every definition and theorem named
+there and in docs/DISPUTE.md is in the file named."""
+import itertools
 import pathlib
 import re
 import sys
 
 sys.dont_write_bytecode = True
 import oracle
+import oracle_forms
 
 ROOT = pathlib.Path(__file__).resolve().parent.parent
 PAGE = (ROOT / "docs/VERDICTS.md").read_text()
@@ -192,6 +195,18 @@ def layouts():
             yield f"Layouts: cli/layout.c has {names}"
 
 
+def forms():
+    """The possible forms by the page's table, and how many each row says that it has."""
+    found = []
+    for kind, a, b, c, count in table("Form counts"):
+        named = [".".join(names) for names in itertools.product([kind], *(modes.split(", ") for modes in (a, b, c)))]
+        if len(named) != int(count):
+            yield f"Form counts, {kind}: {len(named)} forms, not {count}"
+        found += named
+    if len(found) != len(set(found)) or set(found) != oracle_forms.possible():
+        yield "Form counts: other forms than are possible"
+
+
 def named_definitions():
     """Each definition and theorem that the pages name is in the file before it, or in specs/Given of the same crate."""
     text = PAGE + (ROOT / "docs/DISPUTE.md").read_text()
@@ -211,7 +226,7 @@ def named_definitions():
 def main():
     faults = [*against_specs("Execution rules", "Execution.antt", "execRules", EXEC, sentences("execution")),
               *against_specs("Extension rules", "Extension.antt", "extRules", EXT, sentences("extension")),
-              *layouts(), *named_definitions()]
+              *layouts(), *forms(), *named_definitions()]
     faults += [] if faults else dict.fromkeys(formulas())
     print("\n".join(faults) or "docs/VERDICTS.md has every rule as it is")
     return 1 if faults else 0

@@ -2,6 +2,7 @@
 # Rust. Sourced by bench, which runs `customers`; each fault is a line, and one is enough to fail.
 . tests/customers/commands.sh
 . tests/customers/shelves.sh
+. tests/customers/forms.sh
 . tests/customers/handed.sh
 
 faults=0
@@ -90,7 +91,7 @@ customers() {
     scratch
     local part
     for part in statuses inputs unwritable usages links shelves shelf_faults shelf_time records disagreement \
-        figures answer_named stack_figure installed tarball rust_crate; do
+        shelf_forms forms_folders forms_statuses figures answer_named stack_figure installed tarball rust_crate; do
         "$part"
     done
     echo "what customers hold: $faults faults"

@@ -22,12 +22,39 @@ compare() {
     printf '%s\n' "${said:-same}" >"$2"
 }
 
-# strand FIRST STEP: every so many labels from the first on
+# find_labels DIR: labels are those of the folder
+find_labels() {
+    [ -d "$1" ] || stop "$1 is no folder"
+    [ -r "$1" ] && [ -x "$1" ] || stop "$1 cannot be read"
+    labels=("$1"/*.label)
+    [ -e "${labels[0]}" ] || [ -L "${labels[0]}" ] || stop "$1 has no label"
+}
+
+# strand FIRST STEP COMMAND: the command on every so many labels from the first on, each with a file for its outcome
 strand() {
     local i
     for ((i = $1; i < ${#labels[@]}; i += $2)); do
-        compare "${labels[i]}" "$work/$i"
+        "$3" "${labels[i]}" "$work/$i"
     done
+}
+
+# side_by_side COMMAND: the same on all labels, as many at once as there are processors
+side_by_side() {
+    local i strands
+    strands=$(nproc)
+    for ((i = 0; i < strands; i++)); do
+        strand "$i" "$strands" "$1" &
+    done
+    wait
+}
+
+# outcome_of I: outcome is the line that was left for a label, and name is the label's
+outcome_of() {
+    outcome=''
+    [ ! -s "$work/$1" ] || read -r outcome <"$work/$1"
+    : "${outcome:=trouble it was not tried}"
+    name=${labels[$1]##*/}
+    name=${name%.label}
 }
 
 # commit: what is checked out here, and whether something was changed; also for one who does not own the folder
@@ -42,16 +69,13 @@ kit_version() { rt version 2>/dev/null || echo unknown; }
 report() {
     local i outcome name differing=0 troubled=0
     for ((i = 0; i < ${#labels[@]}; i++)); do
-        outcome=''
-        [ ! -s "$work/$i" ] || read -r outcome <"$work/$i"
-        : "${outcome:=trouble it was not compared}"
-        name=${labels[i]##*/}
+        outcome_of "$i"
         case $outcome in
             same) continue ;;
             differs*) differing=$((differing + 1)) ;;
             *) troubled=$((troubled + 1)) ;;
         esac
-        printf '%s: %s\n' "${name%.label}" "${outcome#* }"
+        printf '%s: %s\n' "$name" "${outcome#* }"
     done
     printf '%s labels, %s differ, %s not compared; commit %s, kit %s\n' \
         "${#labels[@]}" "$differing" "$troubled" "$(commit)" "$(kit_version)"
@@ -59,20 +83,13 @@ report() {
     [ "$differing" = 0 ]
 }
 
-# shelf DIR: what each label gives now against what is recorded beside it, as many at once as there are processors
+# shelf DIR: what each label gives now against what is recorded beside it
 shelf() {
-    local labels i strands
-    [ -d "$1" ] || stop "$1 is no folder"
-    [ -r "$1" ] && [ -x "$1" ] || stop "$1 cannot be read"
-    labels=("$1"/*.label)
-    [ -e "${labels[0]}" ] || [ -L "${labels[0]}" ] || stop "$1 has no label"
+    local labels
+    find_labels "$1"
     build replay table
     scratch
-    strands=$(nproc)
-    for ((i = 0; i < strands; i++)); do
-        strand "$i" "$strands" &
-    done
-    wait
+    side_by_side compare
     written report
 }
 

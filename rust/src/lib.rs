@@ -1,11 +1,16 @@
-//! The proved judge of leanVM tables and the reader of labels, from libuisnabar.a, without `unsafe` for the caller.
+//! The proved judge of leanVM tables, counts of the instruction forms that they reach, and the reader of labels, from
+//! libuisnabar.a, without `unsafe` for the caller.
 //!
-//! include/uisnabar.h documents both functions, docs/VERDICTS.md every answer. A call keeps nothing, uses no heap and
-//! at most [`STACK_BYTES`] of stack, and may be made from several threads at once.
+//! include/uisnabar.h documents each function, docs/VERDICTS.md every answer. A call of the library keeps nothing, uses
+//! no heap and at most [`STACK_BYTES`] of stack, [`count`] at most [`COUNT_STACK_BYTES`], and may be made from several
+//! threads at once.
 //!
 //! ```
+//! let mut grid = uisnabar::FRESH;
 //! let refusal = uisnabar::judge(&[], &[], 0, 0, &[], &[]).unwrap_err();
 //! assert_eq!(refusal.to_string(), "SIZE part 1 place 0 rule 0");
+//! assert_eq!(uisnabar::count(&[], &[], 0, 0, &[], &[], &mut grid), Err(refusal));
+//! assert_eq!(uisnabar::report(&grid).unwrap(), "");
 //! let recipe = uisnabar::read_label(b"v=1\nseed=000000012fffffff\nm=10\nn=12\n").unwrap();
 //! assert_eq!((recipe.seed, recipe.m, recipe.n), (0x1_2fff_ffff, 10, 12));
 //! ```
@@ -15,14 +20,21 @@ use std::fmt;
 
 /// The version of the library that this crate is written for, `UISNABAR_VERSION`.
 pub const VERSION: &str = env!("CARGO_PKG_VERSION");
-/// No call uses more stack than this.
+/// No call but [`count`] uses more stack than this.
 pub const STACK_BYTES: usize = 24576;
+/// [`count`] uses no more than this: it holds a grid beside the judge.
+pub const COUNT_STACK_BYTES: usize = 25600;
+/// The length of a grid.
+pub const GRID_BYTES: usize = 1080;
+/// No report is longer than this.
+pub const REPORT_BYTES: usize = 5076;
 
 const ANSWER_BYTES: usize = 16;
 const RECIPE_BYTES: usize = 16;
+const WRITTEN_BYTES: usize = 8;
 
 /// The verdicts by number.
-pub const NAMES: [&str; 14] = [
+pub const NAMES: [&str; 15] = [
     "ACCEPTED",
     "SIZE",
     "WORD",
@@ -37,6 +49,7 @@ pub const NAMES: [&str; 14] = [
     "OPEN",
     "SELF",
     "ANSWER",
+    "GRID",
 ];
 const ACCEPTED: u32 = 0;
 const ANSWER: u32 = 13;
@@ -54,6 +67,32 @@ extern "C" {
         exec_len: usize,
         ext: *const u8,
         ext_len: usize,
+        answer: *mut u8,
+        answer_len: usize,
+    ) -> u32;
+    fn uisnabar_count(
+        program: *const u8,
+        program_len: usize,
+        memory: *const u8,
+        memory_len: usize,
+        pc: u64,
+        fp: u64,
+        exec: *const u8,
+        exec_len: usize,
+        ext: *const u8,
+        ext_len: usize,
+        grid: *mut u8,
+        grid_len: usize,
+        answer: *mut u8,
+        answer_len: usize,
+    ) -> u32;
+    fn uisnabar_report(
+        grid: *const u8,
+        grid_len: usize,
+        text: *mut u8,
+        text_len: usize,
+        written: *mut u8,
+        written_len: usize,
         answer: *mut u8,
         answer_len: usize,
     ) -> u32;
@@ -90,6 +129,12 @@ impl fmt::Display for Refusal {
 }
 
 impl Error for Refusal {}
+
+/// Form counts over a campaign: 135 counters of 8 bytes, little-endian, as include/uisnabar.h orders them. It may hold
+/// anything.
+pub type Grid = [u8; GRID_BYTES];
+/// A grid into which nothing was counted yet.
+pub const FRESH: Grid = [0; GRID_BYTES];
 
 /// What a label stands for.
 #[derive(Clone, Copy, Debug, PartialEq, Eq, Hash)]
@@ -139,6 +184,61 @@ pub fn judge(program: &[u8], memory: &[u8], pc: u64, fp: u64, exec: &[u8], ext: 
         )
     };
     outcome(verdict, &answer)
+}
+
+/// Judges as [`judge`] does, and where it accepts adds one to the grid for each execution row, to the counter of its
+/// instruction's form. On a refusal the grid stays as it was; GRID, tested last, is that its total would pass 2^63 - 1.
+pub fn count(
+    program: &[u8],
+    memory: &[u8],
+    pc: u64,
+    fp: u64,
+    exec: &[u8],
+    ext: &[u8],
+    grid: &mut Grid,
+) -> Result<(), Refusal> {
+    let mut answer = [0; ANSWER_BYTES];
+    // SAFETY: each pointer comes with its slice's length, `grid` is borrowed for this call alone and `answer` its own.
+    let verdict = unsafe {
+        uisnabar_count(
+            program.as_ptr(),
+            program.len(),
+            memory.as_ptr(),
+            memory.len(),
+            pc,
+            fp,
+            exec.as_ptr(),
+            exec.len(),
+            ext.as_ptr(),
+            ext.len(),
+            grid.as_mut_ptr(),
+            grid.len(),
+            answer.as_mut_ptr(),
+            answer.len(),
+        )
+    };
+    outcome(verdict, &answer)
+}
+
+/// A grid's report: a line such as `add.cell.imm.fp=12` for each counter that is not zero, in the grid's order.
+pub fn report(grid: &Grid) -> Result<String, Refusal> {
+    let (mut answer, mut written, mut text) = ([0; ANSWER_BYTES], [0; WRITTEN_BYTES], vec![0; REPORT_BYTES]);
+    // SAFETY: each pointer comes with its slice's length, and the three buffers that are written are this call's own.
+    let verdict = unsafe {
+        uisnabar_report(
+            grid.as_ptr(),
+            grid.len(),
+            text.as_mut_ptr(),
+            text.len(),
+            written.as_mut_ptr(),
+            written.len(),
+            answer.as_mut_ptr(),
+            answer.len(),
+        )
+    };
+    outcome(verdict, &answer)?;
+    text.truncate(number(&written[..4]) as usize);
+    Ok(String::from_utf8_lossy(&text).into_owned())
 }
 
 /// The recipe that a label stands for, or LABEL and how long a prefix it shares with a valid one.

@@ -1,4 +1,4 @@
-//! The crate against the shelf: each label read, and the tables of each judged, as they are and damaged.
+//! The crate against the shelf: each label read, and the tables of each judged and counted, as they are and damaged.
 //!
 //! The tables come from the table program: the one that UISNABAR_TABLE names, or the one built or installed beside this
 //! crate. A shelf stands beside it too.
@@ -6,7 +6,7 @@ use std::fs::{self, File};
 use std::path::{Path, PathBuf};
 use std::process::{Command, Stdio};
 
-use uisnabar::{judge, read_label, Refusal, NAMES};
+use uisnabar::{count, judge, read_label, report, Grid, Refusal, FRESH, NAMES};
 
 const MEMORY: usize = 4096;
 const EXEC: usize = 32 * 256;
@@ -46,12 +46,27 @@ fn tables(label: &Path) -> Vec<u8> {
     told.stdout
 }
 
-/// The lengths at m = 10 and H = K = 256.
-fn judged(tables: &[u8], pc: u64) -> Result<(), Refusal> {
+/// Program, memory and both tables; the lengths at m = 10 and H = K = 256.
+fn parts(tables: &[u8]) -> [&[u8]; 4] {
     let (program, rest) = tables.split_at(tables.len() - MEMORY - EXEC - EXT);
     let (memory, rest) = rest.split_at(MEMORY);
     let (exec, ext) = rest.split_at(EXEC);
+    [program, memory, exec, ext]
+}
+
+fn judged(tables: &[u8], pc: u64) -> Result<(), Refusal> {
+    let [program, memory, exec, ext] = parts(tables);
     judge(program, memory, pc, 0, exec, ext)
+}
+
+fn counted(tables: &[u8], pc: u64, grid: &mut Grid) -> Result<(), Refusal> {
+    let [program, memory, exec, ext] = parts(tables);
+    count(program, memory, pc, 0, exec, ext, grid)
+}
+
+/// The counters by the report's lines.
+fn total(grid: &Grid) -> u128 {
+    report(grid).unwrap().lines().map(|line| line.split_once('=').unwrap().1.parse::<u128>().unwrap()).sum()
 }
 
 #[test]
@@ -103,6 +118,49 @@ fn every_table_is_judged_as_recorded() {
         accepted += 1;
     }
     assert!(accepted >= 22, "{accepted} tables");
+}
+
+#[test]
+fn every_accepted_table_is_counted_and_no_other() {
+    let (mut grid, mut accepted) = (FRESH, 0);
+    for label in labels() {
+        let tables = tables(&label);
+        if tables.is_empty() {
+            continue;
+        }
+        let before = grid;
+        assert_eq!(counted(&tables, 1, &mut grid), judged(&tables, 1), "{}", label.display());
+        assert_eq!(grid, before, "{}", label.display());
+        assert_eq!(counted(&tables, 0, &mut grid), Ok(()), "{}", label.display());
+        accepted += 1;
+        assert_eq!(total(&grid), accepted * 256, "{}", label.display());
+    }
+    let lines = report(&grid).unwrap();
+    let forms: Vec<&str> = lines.lines().map(|line| line.split_once('=').unwrap().0).collect();
+    // the forms that the maker writes, in the grid's order
+    assert_eq!(
+        forms,
+        ["add.cell.cell.cell", "mul.cell.cell.cell", "deref.cell.imm.cell", "jump.imm.imm.fp", "ext.imm.imm.imm"]
+    );
+}
+
+#[test]
+fn a_grid_is_full_at_its_last_row() {
+    let tables = labels().iter().map(|label| tables(label)).find(|tables| !tables.is_empty()).unwrap();
+    let most = (1_u64 << 63) - 1;
+    for (rows, taken) in [(most - 256, true), (most - 255, false), (u64::MAX, false)] {
+        let mut grid = FRESH;
+        grid[..8].copy_from_slice(&rows.to_le_bytes());
+        let before = grid;
+        let found = counted(&tables, 0, &mut grid);
+        assert_eq!(found.map_err(|refusal| refusal.name()), if taken { Ok(()) } else { Err("GRID") });
+        assert_eq!(taken, grid != before);
+        assert_eq!(total(&grid), u128::from(rows) + if taken { 256 } else { 0 });
+        assert_eq!(counted(&tables, 1, &mut grid).unwrap_err().name(), "START");
+    }
+    let lines = report(&[0xff; 1080]).unwrap();
+    assert_eq!((lines.len(), lines.lines().count()), (5076, 135));
+    assert!(lines.ends_with("\next.fp.fp.fp=18446744073709551615\n"));
 }
 
 #[test]

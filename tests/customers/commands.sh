@@ -61,6 +61,7 @@ unwritable() {
     unwritten replay shelf/refused-cut.label
     unwritten table shelf/seed-0.label
     unwritten shelf shelf
+    unwritten forms shelf
     unwritten record shelf/seed-0.label "$work/unwritable"
     unwritten dist
     unwritten --help
@@ -76,8 +77,8 @@ usages() {
         said 'usage: ./bench replay'
         complained ''
     done
-    for command in '' nonsense -x shelf 'shelf a b' record 'record a' install 'install a b' 'dist a' 'lib a' 'differ' \
-        'differ x' 'differ 1 x' 'differ 0' 'stack a' 'speed a'; do
+    for command in '' nonsense -x shelf 'shelf a b' forms 'forms a b' record 'record a' install 'install a b' 'dist a' \
+        'lib a' 'differ' 'differ x' 'differ 1 x' 'differ 0' 'stack a' 'speed a'; do
         gives 2 ./bench $command
         said ''
         complained 'usage: ./bench replay'

@@ -1,58 +1,109 @@
-/* Which lengths of `answer` and `recipe` the library takes, and the header's names and figures, each on a line. */
+/* Which lengths the library takes of each buffer that has one length, and the header's names and figures, each on a
+ * line. */
 #include <stdio.h>
 #include <string.h>
 
 #include "uisnabar.h"
 
-enum { MOST = 256, UNTOUCHED = 0xa5 };
+enum { MOST = 1200, UNTOUCHED = 0xa5 };
 
 static const char text[] = "v=1\nseed=000000012fffffff\nm=10\nn=12\n";
+static struct {
+    uint8_t answer[MOST], recipe[MOST], grid[MOST], written[MOST];
+} lent;
 
-/* Whether the buffer holds its first bytes still. */
-static int untouched(const uint8_t *buffer)
+/* Calls in which one buffer has the length and the others have theirs. */
+static uint32_t judge_answer(size_t len)
 {
-    for (size_t i = 0; i < MOST; i++)
-        if (buffer[i] != UNTOUCHED)
+    return uisnabar_judge(NULL, 0, NULL, 0, 0, 0, NULL, 0, NULL, 0, lent.answer, len);
+}
+
+static uint32_t count_grid(size_t len)
+{
+    return uisnabar_count(NULL, 0, NULL, 0, 0, 0, NULL, 0, NULL, 0, lent.grid, len, lent.answer, UISNABAR_ANSWER_BYTES);
+}
+
+static uint32_t count_answer(size_t len)
+{
+    return uisnabar_count(NULL, 0, NULL, 0, 0, 0, NULL, 0, NULL, 0, lent.grid, UISNABAR_GRID_BYTES, lent.answer, len);
+}
+
+static uint32_t report_grid(size_t len)
+{
+    return uisnabar_report(lent.grid, len, NULL, 0, lent.written, UISNABAR_WRITTEN_BYTES, lent.answer, UISNABAR_ANSWER_BYTES);
+}
+
+static uint32_t report_written(size_t len)
+{
+    return uisnabar_report(lent.grid, UISNABAR_GRID_BYTES, NULL, 0, lent.written, len, lent.answer, UISNABAR_ANSWER_BYTES);
+}
+
+static uint32_t report_answer(size_t len)
+{
+    return uisnabar_report(lent.grid, UISNABAR_GRID_BYTES, NULL, 0, lent.written, UISNABAR_WRITTEN_BYTES, lent.answer, len);
+}
+
+static uint32_t label_answer(size_t len)
+{
+    return uisnabar_label((const uint8_t *)text, sizeof text - 1, lent.answer, len, lent.recipe, UISNABAR_RECIPE_BYTES);
+}
+
+static uint32_t label_recipe(size_t len)
+{
+    return uisnabar_label((const uint8_t *)text, sizeof text - 1, lent.answer, UISNABAR_ANSWER_BYTES, lent.recipe, len);
+}
+
+/* Whether every buffer holds its first bytes still. */
+static int untouched(void)
+{
+    const uint8_t *bytes = (const uint8_t *)&lent;
+    for (size_t i = 0; i < sizeof lent; i++)
+        if (bytes[i] != UNTOUCHED)
             return 0;
     return 1;
 }
 
 /* Each length but one is ANSWER with nothing written; the one is printed. */
-static void lengths(const char *name, int of_recipe)
+static void lengths(const char *name, uint32_t (*call)(size_t len))
 {
-    static uint8_t answer[MOST], recipe[MOST];
-    for (size_t length = 0; length <= MOST; length++) {
-        memset(answer, UNTOUCHED, sizeof answer);
-        memset(recipe, UNTOUCHED, sizeof recipe);
-        size_t answer_len = of_recipe ? UISNABAR_ANSWER_BYTES : length, recipe_len = of_recipe ? length : UISNABAR_RECIPE_BYTES;
-        uint32_t verdict = uisnabar_label((const uint8_t *)text, sizeof text - 1, answer, answer_len, recipe, recipe_len);
+    for (size_t len = 0; len <= MOST; len++) {
+        memset(&lent, UNTOUCHED, sizeof lent);
+        uint32_t verdict = call(len);
         if (verdict != UISNABAR_ANSWER)
-            printf("%s %zu %s\n", name, length, uisnabar_name(verdict));
-        else if (!untouched(answer) || !untouched(recipe))
-            printf("%s %zu written on ANSWER\n", name, length);
+            printf("length %s %zu %s\n", name, len, uisnabar_name(verdict));
+        else if (!untouched())
+            printf("length %s %zu written on ANSWER\n", name, len);
     }
 }
 
-static void judge_lengths(void)
+/* What the longest report needs, and whether a buffer of so many bytes is taken and one of a byte less is not. */
+static void longest(void)
 {
-    static uint8_t answer[MOST];
-    for (size_t length = 0; length <= MOST; length++) {
-        memset(answer, UNTOUCHED, sizeof answer);
-        uint32_t verdict = uisnabar_judge(NULL, 0, NULL, 0, 0, 0, NULL, 0, NULL, 0, answer, length);
-        if (verdict != UISNABAR_ANSWER)
-            printf("judge's answer %zu %s\n", length, uisnabar_name(verdict));
-        else if (!untouched(answer))
-            printf("judge's answer %zu written on ANSWER\n", length);
+    static uint8_t report[UISNABAR_REPORT_BYTES];
+    memset(&lent, 0xff, sizeof lent);
+    for (size_t less = 0; less < 2; less++) {
+        uint32_t verdict = uisnabar_report(lent.grid, UISNABAR_GRID_BYTES, report, sizeof report - less, lent.written,
+                                           UISNABAR_WRITTEN_BYTES, lent.answer, UISNABAR_ANSWER_BYTES);
+        printf("longest %s written %d place %d\n", uisnabar_name(verdict), lent.written[0] | lent.written[1] << 8,
+               lent.answer[8] | lent.answer[9] << 8);
     }
 }
 
 int main(void)
 {
-    judge_lengths();
-    lengths("label's answer", 0);
-    lengths("label's recipe", 1);
+    lengths("judge's answer", judge_answer);
+    lengths("count's grid", count_grid);
+    lengths("count's answer", count_answer);
+    lengths("report's grid", report_grid);
+    lengths("report's written", report_written);
+    lengths("report's answer", report_answer);
+    lengths("label's answer", label_answer);
+    lengths("label's recipe", label_recipe);
+    longest();
     for (uint32_t verdict = 0; strcmp(uisnabar_name(verdict), "unknown") != 0; verdict++)
         printf("verdict %u %s\n", (unsigned)verdict, uisnabar_name(verdict));
-    printf("answer %d\nrecipe %d\nstack %d\nversion %s\n", UISNABAR_ANSWER_BYTES, UISNABAR_RECIPE_BYTES, UISNABAR_STACK_BYTES, UISNABAR_VERSION);
+    printf("answer %d\nrecipe %d\ngrid %d\nwritten %d\nreport %d\n", UISNABAR_ANSWER_BYTES, UISNABAR_RECIPE_BYTES, UISNABAR_GRID_BYTES,
+           UISNABAR_WRITTEN_BYTES, UISNABAR_REPORT_BYTES);
+    printf("stack %d\ncount_stack %d\nversion %s\n", UISNABAR_STACK_BYTES, UISNABAR_COUNT_STACK_BYTES, UISNABAR_VERSION);
     return 0;
 }

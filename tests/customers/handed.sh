@@ -7,14 +7,27 @@ figure() { sed -n "s/^$1 //p" "$work/figures"; }
 # rust_figure FILE NAME: a constant of a Rust file
 rust_figure() { sed -n "s/^\(pub \)\?const $2: usize = \([0-9]*\);$/\2/p" "$1"; }
 
+# lengths: what tests/customers/figures.c must find, by the header's figures: the one length of each buffer that has one
+lengths() {
+    local name
+    echo "length judge's answer $(figure answer) SIZE"
+    echo "length count's grid $(figure grid) SIZE"
+    echo "length count's answer $(figure answer) SIZE"
+    for name in grid written answer; do
+        echo "length report's $name $(figure "$name") SIZE"
+    done
+    echo "length label's answer $(figure answer) ACCEPTED"
+    echo "length label's recipe $(figure recipe) ACCEPTED"
+    echo "longest ACCEPTED written $(figure report) place 0"
+    echo "longest SIZE written 0 place $(figure report)"
+}
+
 # the header's figures are the code's, and every other place that states one agrees
 figures() {
-    local file name expected number
+    local file name number
     compile "$work/figures-program" -Iinclude tests/customers/figures.c target/staticlib/libuisnabar.a &&
         emulated "$work/figures-program" >"$work/figures" || fault "the program that reads the header's figures failed"
-    expected=$(printf "judge's answer %s SIZE\nlabel's answer %s ACCEPTED\nlabel's recipe %s ACCEPTED" \
-        "$(figure answer)" "$(figure answer)" "$(figure recipe)")
-    equal "lengths that the library takes" "$(grep "^judge's\|^label's" "$work/figures")" "$expected"
+    equal "lengths that the library takes" "$(grep '^length\|^longest' "$work/figures")" "$(lengths)"
     for number in "${!verdicts[@]}"; do
         echo "verdict $number ${verdicts[number]}"
     done | cmp -s - <(grep ^verdict "$work/figures") || fault "the header has other verdicts than tools/answers.sh"
@@ -22,7 +35,9 @@ figures() {
         equal "$file, answer" "$(rust_figure "$file" ANSWER_BYTES)" "$(figure answer)"
         equal "$file, recipe" "$(rust_figure "$file" RECIPE_BYTES)" "$(figure recipe)"
     done
-    equal "rust/src/lib.rs, stack" "$(rust_figure rust/src/lib.rs STACK_BYTES)" "$(figure stack)"
+    for name in stack count_stack grid written report; do
+        equal "rust/src/lib.rs, $name" "$(rust_figure rust/src/lib.rs "${name^^}_BYTES")" "$(figure "$name")"
+    done
     name=$(sed -n '/^pub const NAMES/,/^];/p' rust/src/lib.rs | grep -o '"[A-Z]*"' | tr -d '"' | tr '\n' ' ')
     equal "rust/src/lib.rs, names" "$name" "$(printf '%s ' "${verdicts[@]}")"
     equal "rust/Cargo.toml, version" "$(sed -n 's/^version = "\(.*\)"$/\1/p' rust/Cargo.toml)" "$(figure version)"
@@ -53,31 +68,41 @@ answer_named() {
 
 # no exported function uses more stack than the header says
 stack_figure() {
+    local name bytes limit
     gives 0 ./bench stack
-    equal "exported functions measured" "$(grep -c ^uisnabar_ "$work/said")" "$(grep -c '^uint32_t uisnabar_' include/uisnabar.h)"
+    grep '^uisnabar_.* bytes of stack$' "$work/said" >"$work/stacks" || true
+    equal "exported functions measured" "$(wc -l <"$work/stacks")" "$(grep -c '^uint32_t uisnabar_' include/uisnabar.h)"
     while read -r name bytes _; do
-        [ "$bytes" -le "$(figure stack)" ] || fault "$name uses $bytes bytes of stack, the header says $(figure stack)"
-    done < <(grep ^uisnabar_ "$work/said")
+        limit=$(figure stack)
+        [ "$name" != uisnabar_count: ] || limit=$(figure count_stack)
+        [ "$bytes" -le "$limit" ] || fault "$name uses $bytes bytes of stack, the header says $limit"
+    done <"$work/stacks"
 }
 
-# holds_tree PREFIX: a driver compiled by pkg-config judges; the programs answer the shelf; all as in the repository
+# holds_tree PREFIX: a driver compiled by pkg-config judges; the programs answer the shelf, and the command counts its
+# forms; all as in the repository
 holds_tree() {
     local doc=$1/share/doc/uisnabar shelf=$1/share/uisnabar/shelf flags label
     flags=$(PKG_CONFIG_PATH=$1/lib/pkgconfig pkg-config --cflags --libs uisnabar) || fault "pkg-config knows no uisnabar"
     equal "pkg-config's version" "$(PKG_CONFIG_PATH=$1/lib/pkgconfig pkg-config --modversion uisnabar)" "$(version)"
     # pkg-config puts a backslash before a space
     eval "compile \"\$work/tree-driver\" \"\$doc/driver.c\" $flags" || { fault "driver.c cannot be compiled in $1"; return 0; }
+    rm -f "$work/tree-grid"
     for label in "$shelf"/*.label; do
         native "$1/bin/uisnabar-replay" <"$label" | cmp -s - "${label%.label}.answer" || fault "another answer: $label"
         native "$1/bin/uisnabar-table" <"$label" >"$work/tables" || fault "uisnabar-table failed: $label"
         equal "$label" "$(sha256sum <"$work/tables")" "$(cat "${label%.label}.tables")"
-        [ ! -s "$work/tables" ] || gives 0 of "$work/tables" emulated "$work/tree-driver"
+        [ -s "$work/tables" ] || continue
+        gives 0 of "$work/tables" emulated "$work/tree-driver"
+        gives 0 emulated "$1/bin/uisnabar" count "$work/tree-grid" "$work/tables"
     done
+    gives 0 emulated "$1/bin/uisnabar" report "$work/tree-grid"
+    said_file "$work/report"
     for label in VERDICTS.md CHANGELOG.md driver.rs; do
         [ -s "$doc/$label" ] || fault "$doc has no $label"
     done
     diff -r shelf "$shelf" >/dev/null || fault "$shelf is not the shelf"
-    ! declare -F cli >/dev/null || gives 0 emulated "$1/bin/uisnabar" --version
+    gives 0 emulated "$1/bin/uisnabar" --version
 }
 
 # native FILE: a program under the system's loader, on Arm under the kit's

@@ -8,7 +8,7 @@
 #include "builder.h"
 
 /* Zeros and a one make rows with several operations possible. */
-static void fill_memory(builder *b)
+void fill_memory(builder *b)
 {
     uint32_t style = below(b->random, 4), at;
     const uint32_t one_and_zeros[6] = { 1, 0, 0, 0, 0, 0 };

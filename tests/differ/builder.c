@@ -1,6 +1,5 @@
 #include "builder.h"
 
-enum { IMMEDIATE, CELL, FRAME };
 enum { SUM, PRODUCT, PEQ };
 
 static uint32_t cell_at(const builder *b, uint32_t at)
@@ -64,6 +63,13 @@ static uint32_t some_mode(builder *b, bool frame_too)
     return below(b->random, frame_too ? 3 : 2);
 }
 
+/* For a kind whose C takes all modes, and whose A and B are not fp-relative. */
+static void some_modes(builder *b, bool fixed, uint32_t modes[3])
+{
+    for (uint32_t k = OP_A; k <= OP_C; k++)
+        modes[k] = fixed ? IMMEDIATE : some_mode(b, k == OP_C);
+}
+
 static void set_mode(uint32_t *form, uint32_t k, uint32_t mode)
 {
     if (mode == IMMEDIATE)
@@ -105,22 +111,26 @@ static void give_operand(builder *b, uint32_t *form, uint32_t k, uint32_t mode,
     }
 }
 
-/* ADD or MUL. */
-void put_arithmetic(builder *b, bool fixed)
+void put_arithmetic_in(builder *b, bool mul, const uint32_t modes[3])
 {
     uint32_t form[FORM_WORDS] = { 0 };
-    bool mul = once_in(b->random, 2);
     form[mul ? W_MUL : W_AUX] = 1;
-    uint32_t x = some_operand(b, form, OP_A,
-                              fixed ? IMMEDIATE : some_mode(b, false));
-    uint32_t z = some_operand(b, form, OP_C,
-                              fixed ? IMMEDIATE : some_mode(b, true));
-    give_operand(b, form, OP_B, fixed ? IMMEDIATE : some_mode(b, false),
+    uint32_t x = some_operand(b, form, OP_A, modes[OP_A]);
+    uint32_t z = some_operand(b, form, OP_C, modes[OP_C]);
+    give_operand(b, form, OP_B, modes[OP_B],
                  mul ? word_mul(x, z) : word_add(x, z));
     put_form(b, form);
 }
 
-void put_deref(builder *b)
+void put_arithmetic(builder *b, bool fixed)
+{
+    uint32_t modes[3];
+    bool mul = once_in(b->random, 2);
+    some_modes(b, fixed, modes);
+    put_arithmetic_in(b, mul, modes);
+}
+
+void put_deref_in(builder *b, uint32_t mode_c)
 {
     uint32_t form[FORM_WORDS] = { 0 }, target = below(b->random, b->cells);
     uint32_t pointer = some_operand(b, form, OP_A, CELL);
@@ -128,24 +138,37 @@ void put_deref(builder *b)
     form[W_AUX] = 2;
     form[F_B] = 1;
     form[OP_B] = word_sub(target, pointer);
-    give_operand(b, form, OP_C, some_mode(b, true), cell_at(b, target));
+    give_operand(b, form, OP_C, mode_c, cell_at(b, target));
+    put_form(b, form);
+}
+
+void put_deref(builder *b)
+{
+    put_deref_in(b, some_mode(b, true));
+}
+
+void put_jump_in(builder *b, const uint32_t modes[3], bool taken, uint32_t to,
+                 uint32_t frame)
+{
+    uint32_t form[FORM_WORDS] = { 0 };
+    form[W_JUMP] = 1;
+    give_operand(b, form, OP_A, modes[OP_A], taken);
+    if (taken) {
+        give_operand(b, form, OP_B, modes[OP_B], to);
+        give_operand(b, form, OP_C, modes[OP_C], frame);
+    } else {
+        some_operand(b, form, OP_B, modes[OP_B]);
+        some_operand(b, form, OP_C, modes[OP_C]);
+    }
     put_form(b, form);
 }
 
 void put_jump(builder *b, bool taken, uint32_t to, uint32_t frame)
 {
-    uint32_t form[FORM_WORDS] = { 0 };
-    uint32_t mode_b = some_mode(b, false), mode_c = CELL + below(b->random, 2);
-    form[W_JUMP] = 1;
-    give_operand(b, form, OP_A, some_mode(b, false), taken);
-    if (taken) {
-        give_operand(b, form, OP_B, mode_b, to);
-        give_operand(b, form, OP_C, mode_c, frame);
-    } else {
-        some_operand(b, form, OP_B, mode_b);
-        some_operand(b, form, OP_C, mode_c);
-    }
-    put_form(b, form);
+    uint32_t modes[3];
+    some_modes(b, false, modes);
+    modes[OP_C] = CELL + below(b->random, 2);
+    put_jump_in(b, modes, taken, to, frame);
 }
 
 static element five_at(const builder *b, uint32_t at)
@@ -182,18 +205,7 @@ static uint32_t some_start(builder *b, uint32_t last)
     return once_in(b->random, 6) ? 0 : below(b->random, last + 1);
 }
 
-static void put_addresses(builder *b, uint32_t *form, const uint32_t from[2],
-                          uint32_t to, bool fixed)
-{
-    bool frames = !fixed && once_in(b->random, 3);
-    uint32_t a = frames ? FRAME : fixed ? IMMEDIATE : some_mode(b, false);
-    uint32_t c = frames ? FRAME : fixed ? IMMEDIATE : some_mode(b, false);
-    give_operand(b, form, OP_A, a, from[0]);
-    give_operand(b, form, OP_B, c, from[1]);
-    give_operand(b, form, OP_C, fixed ? IMMEDIATE : some_mode(b, true), to);
-}
-
-void put_group(builder *b, uint32_t n, bool fixed)
+void put_group_in(builder *b, uint32_t n, const uint32_t modes[3])
 {
     uint32_t form[FORM_WORDS] = { 0 }, kind = below(b->random, 3), to;
     bool be = once_in(b->random, 2);
@@ -209,9 +221,21 @@ void put_group(builder *b, uint32_t n, bool fixed)
     element all = group_result(b, kind, be, n, from);
     set_cells(b, to, all.at, 5);
     form[W_DATA] = 2 * (uint32_t)be + (4u << kind) + 32 * n;
-    put_addresses(b, form, from, to, fixed);
+    give_operand(b, form, OP_A, modes[OP_A], from[0]);
+    give_operand(b, form, OP_B, modes[OP_B], from[1]);
+    give_operand(b, form, OP_C, modes[OP_C], to);
     put_form(b, form);
     b->used += n;
+}
+
+/* A and B are fp-relative together. */
+void put_group(builder *b, uint32_t n, bool fixed)
+{
+    uint32_t modes[3];
+    some_modes(b, fixed, modes);
+    if (!fixed && once_in(b->random, 3))
+        modes[OP_A] = modes[OP_B] = FRAME;
+    put_group_in(b, n, modes);
 }
 
 void put_dead_form(builder *b)

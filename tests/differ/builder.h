@@ -1,4 +1,4 @@
-/* Inside build.c and builder.c only: single instructions. */
+/* Inside build.c, builder.c and forms.c only: single instructions. */
 #ifndef DIFFER_BUILDER_H
 #define DIFFER_BUILDER_H
 
@@ -12,6 +12,12 @@ typedef struct {
     bool pinned[MAX_CELLS];      /* cells that a step already relies on */
 } builder;
 
+/* Operands' modes, numbered as a grid of forms has them. */
+enum { IMMEDIATE, CELL, FRAME };
+
+/* A memory of b->cells words, none of them relied on but a one and zeros. */
+void fill_memory(builder *b);
+
 /* `run` cells one after another that nothing relies on. */
 bool find_free(builder *b, uint32_t run, uint32_t *at);
 void set_cells(builder *b, uint32_t at, const uint32_t *words, uint32_t count);
@@ -24,6 +30,13 @@ void put_arithmetic(builder *b, bool fixed);
 void put_deref(builder *b);
 void put_jump(builder *b, bool taken, uint32_t to, uint32_t frame);
 void put_group(builder *b, uint32_t n, bool fixed);
+
+/* The same in the modes given for A, B and C. */
+void put_arithmetic_in(builder *b, bool mul, const uint32_t modes[3]);
+void put_deref_in(builder *b, uint32_t mode_c);
+void put_jump_in(builder *b, const uint32_t modes[3], bool taken, uint32_t to,
+                 uint32_t frame);
+void put_group_in(builder *b, uint32_t n, const uint32_t modes[3]);
 
 /* A well-formed instruction that is not meant to be run. */
 void put_dead_form(builder *b);

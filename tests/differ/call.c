@@ -8,7 +8,13 @@
 #include "library.h"
 #include "thread.h"
 
-enum { ANSWER_BYTES = 16 };
+enum { ANSWER_BYTES = 16, RECIPE_BYTES = 16, WRITTEN_BYTES = 8 };
+
+_Static_assert(UISNABAR_ANSWER_BYTES == ANSWER_BYTES
+               && UISNABAR_RECIPE_BYTES == RECIPE_BYTES
+               && UISNABAR_WRITTEN_BYTES == WRITTEN_BYTES
+               && UISNABAR_GRID_BYTES == SECOND_GRID_BYTES,
+               "the header's lengths are the documents'");
 
 /* The call on its way to the library. */
 typedef struct {
@@ -64,6 +70,16 @@ static void call_library(void *at)
         c->returned = uisnabar_label(s[0].lent, s[0].len, s[1].lent, s[1].len,
                                      s[2].lent, s[2].len);
         break;
+    case COUNT:
+        c->returned = uisnabar_count(s[0].lent, s[0].len, s[1].lent, s[1].len,
+                                     c->t->pc, c->t->fp, s[2].lent, s[2].len,
+                                     s[3].lent, s[3].len, s[4].lent, s[4].len,
+                                     s[5].lent, s[5].len);
+        break;
+    case REPORT:
+        c->returned = uisnabar_report(s[0].lent, s[0].len, s[1].lent, s[1].len,
+                                      s[2].lent, s[2].len, s[3].lent, s[3].len);
+        break;
     case TABLER:
         c->returned = probe_table(s[0].lent, s[0].len, s[1].lent, s[1].len,
                                   c->t->pc, c->t->fp, s[2].lent, s[2].len,
@@ -79,9 +95,15 @@ static void call_library(void *at)
     }
 }
 
+/* What the second gives beside its answer. */
+typedef struct {
+    second_recipe read; /* of the label reader */
+    uint32_t length;    /* of the label writer */
+    uint64_t written;   /* of the report */
+} given;
+
 /* The second's answer; its work is done in the mirrors. */
-static second_answer second_answers(const attempt *t, const slot *s,
-                                    second_recipe *read, uint32_t *length)
+static second_answer second_answers(const attempt *t, const slot *s, given *out)
 {
     switch (t->function) {
     case JUDGE:
@@ -89,7 +111,13 @@ static second_answer second_answers(const attempt *t, const slot *s,
             s[0].mirror, s[0].len, s[1].mirror, s[1].len, t->pc, t->fp,
             s[2].mirror, s[2].len, s[3].mirror, s[3].len);
     case LABEL_READER:
-        return second_read_label(s[0].mirror, s[0].len, read);
+        return second_read_label(s[0].mirror, s[0].len, &out->read);
+    case COUNT:
+        return (t->sorted ? second_count_sorted : second_count)(
+            s[0].mirror, s[0].len, s[1].mirror, s[1].len, t->pc, t->fp,
+            s[2].mirror, s[2].len, s[3].mirror, s[3].len, s[4].mirror);
+    case REPORT:
+        return second_report(s[0].mirror, s[1].mirror, s[1].len, &out->written);
     case TABLER:
         return second_table(s[0].mirror, s[0].len, s[1].mirror, s[1].len,
                             t->pc, t->fp, s[2].mirror, s[2].len,
@@ -98,7 +126,8 @@ static second_answer second_answers(const attempt *t, const slot *s,
         return second_make(t->recipe, s[0].mirror, s[0].len,
                            s[1].mirror, s[1].len);
     default:
-        return second_write_label(t->recipe, s[0].mirror, s[0].len, length);
+        return second_write_label(t->recipe, s[0].mirror, s[0].len,
+                                  &out->length);
     }
 }
 
@@ -107,34 +136,69 @@ static int answer_slot(enum function f)
 {
     static const int slots[FUNCTIONS] = {
         [JUDGE] = 4, [LABEL_READER] = 1, [TABLER] = 4, [MAKER] = 2,
-        [LABEL_WRITER] = 1
+        [LABEL_WRITER] = 1, [COUNT] = 5, [REPORT] = 3
     };
     return slots[f];
+}
+
+/* Whether each buffer of fixed length has it. */
+static bool lengths_fit(enum function f, const slot *s)
+{
+    if (s[answer_slot(f)].len != ANSWER_BYTES)
+        return false;
+    switch (f) {
+    case LABEL_READER:
+        return s[2].len == RECIPE_BYTES;
+    case COUNT:
+        return s[4].len == SECOND_GRID_BYTES;
+    case REPORT:
+        return s[0].len == SECOND_GRID_BYTES && s[2].len == WRITTEN_BYTES;
+    default:
+        return true;
+    }
+}
+
+/* The probe works all the same where the answer's length is another. */
+static bool is_probe(enum function f)
+{
+    return f == TABLER || f == MAKER || f == LABEL_WRITER;
+}
+
+static void store_number(uint8_t *to, uint64_t number)
+{
+    store_word(to, (uint32_t)number);
+    store_word(to + 4, (uint32_t)(number >> 32));
+}
+
+/* The mirrors of what a call tells, where all lengths fit. */
+static void tell(enum function f, const slot *s, second_answer a, given g)
+{
+    const uint32_t four[4] = { a.verdict, a.part, a.place, a.rule };
+    for (int i = 0; i < 4; i++)
+        store_word(s[answer_slot(f)].mirror + 4 * i, four[i]);
+    if (f == LABEL_READER && a.verdict == ACCEPTED) {
+        store_number(s[2].mirror, g.read.seed);
+        store_word(s[2].mirror + 8, g.read.m);
+        store_word(s[2].mirror + 12, g.read.n);
+    }
+    if (f == REPORT)
+        store_number(s[2].mirror, g.written);
 }
 
 /* What the caller must be told, with all mirrors as the buffers must end.
  * ANSWER is the C call's own, so the second knows nothing of it. */
 static second_answer wanted(const attempt *t, const slot *s, uint32_t *returned)
 {
-    const slot *told = &s[answer_slot(t->function)];
-    second_recipe read = { 0, 0, 0 };
-    uint32_t length = 0;
-    second_answer a = second_answers(t, s, &read, &length);
-    bool reader = t->function == LABEL_READER;
-    if (told->len != ANSWER_BYTES || (reader && s[2].len != ANSWER_BYTES)) {
+    bool fit = lengths_fit(t->function, s);
+    second_answer a = { ANSWER, 0, 0, 0 };
+    given g = { { 0, 0, 0 }, 0, 0 };
+    if (fit || is_probe(t->function))
+        a = second_answers(t, s, &g);
+    if (fit)
+        tell(t->function, s, a, g);
+    else
         a = (second_answer){ ANSWER, 0, 0, 0 };
-    } else {
-        const uint32_t four[4] = { a.verdict, a.part, a.place, a.rule };
-        for (int i = 0; i < 4; i++)
-            store_word(told->mirror + 4 * i, four[i]);
-        if (reader && a.verdict == ACCEPTED) {
-            store_word(s[2].mirror, (uint32_t)read.seed);
-            store_word(s[2].mirror + 4, (uint32_t)(read.seed >> 32));
-            store_word(s[2].mirror + 8, read.m);
-            store_word(s[2].mirror + 12, read.n);
-        }
-    }
-    *returned = t->function == LABEL_WRITER ? length : a.verdict;
+    *returned = t->function == LABEL_WRITER ? g.length : a.verdict;
     return a;
 }
 
@@ -166,7 +230,7 @@ static void print_difference(differ *d, const attempt *t, uint32_t got,
     printf("  tried: %s\n", d->what);
 }
 
-void compare(differ *d, const attempt *t)
+second_answer compare(differ *d, const attempt *t)
 {
     library_call c = { t, d->slots, 0 };
     uint32_t want;
@@ -179,6 +243,7 @@ void compare(differ *d, const attempt *t)
             slot_lend(&d->slots[i], &d->filler, d->paged, b->bytes, b->len);
     }
     d->calls++;
+    d->counts += t->function == COUNT || t->function == REPORT;
     prepare_fault(d);
     if (d->paged)
         call_on_thread(d, call_library, &c);
@@ -189,8 +254,14 @@ void compare(differ *d, const attempt *t)
     bool same = c.returned == want;
     for (int i = 0; i < SLOTS; i++)
         same = same && slot_fault(&d->slots[i], &at) == NULL;
-    if (same)
-        return;
-    if (d->differences++ < FULL_DIFFERENCES)
+    if (!same && d->differences++ < FULL_DIFFERENCES)
         print_difference(d, t, c.returned, want);
+    return a;
+}
+
+void differs(differ *d, const char *how)
+{
+    if (d->differences++ < FULL_DIFFERENCES)
+        printf("difference: seed %" PRIu64 ", call %" PRIu64 ", %s\n"
+               "  tried: %s\n", d->seed, d->calls, how, d->what);
 }

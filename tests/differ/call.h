@@ -6,7 +6,7 @@
 #include "lend.h"
 #include "tally.h"
 
-enum { SLOTS = 5, FULL_DIFFERENCES = 10 };
+enum { SLOTS = 6, FULL_DIFFERENCES = 10 };
 
 /* A buffer at entry; bytes NULL stands for random bytes. */
 typedef struct {
@@ -19,14 +19,15 @@ typedef struct {
  * answer's last but for the label reader, whose recipe comes after it. */
 typedef struct {
     enum function function;
-    uint64_t pc, fp;      /* judge and tabler */
+    uint64_t pc, fp;      /* judge, count and tabler */
     second_recipe recipe; /* maker and writer */
     buffer lent[SLOTS];
     bool sorted;          /* the bus would be slow to count */
 } attempt;
 
 typedef struct {
-    uint64_t seed, calls, limit, differences;
+    uint64_t seed, limit, differences;
+    uint64_t calls, counts; /* all of them; those of count and report */
     source random; /* for what is tried */
     source filler; /* for random bytes and where buffers stand */
     bool paged;
@@ -44,13 +45,18 @@ bool differ_open(differ *d, uint64_t seed, bool paged);
 void note(differ *d, const char *format, ...);
 void note_back(differ *d, size_t len);
 
-/* More calls are asked for. */
+/* More calls are asked for.  Counts and reports come beside those that are
+ * asked for, so that they take the place of no other. */
 static inline bool more_calls(const differ *d)
 {
-    return d->calls < d->limit;
+    return d->calls - d->counts < d->limit;
 }
 
-/* Calls both, compares everything, counts what was reached. */
-void compare(differ *d, const attempt *t);
+/* Calls both, compares everything, counts what was reached; gives the second's
+ * answer.  The slots then hold what the library left. */
+second_answer compare(differ *d, const attempt *t);
+
+/* A difference that no comparison of bytes tells. */
+void differs(differ *d, const char *how);
 
 #endif

@@ -1,5 +1,5 @@
 /* Tables of 16,383 and of 32,767 groups: in another order than the pushes, the judge's bus is settled by several rounds, and where it does
- * not balance by several windows. */
+ * not balance by several windows. Each is counted too. */
 #include <inttypes.h>
 #include <stdio.h>
 #include <string.h>
@@ -23,19 +23,33 @@ static void put_answer(uint8_t out[16], second_answer a)
     store_word(out + 12, a.rule);
 }
 
-/* Both judges on the input with this extension table; false where they differ or the verdict is another. */
+/* The library's count gives the same answer, and from a fresh grid all rows or none. */
+static bool counts(const speed_input *in, const uint8_t *ext, const uint8_t answer[16], const uint8_t mirror[SECOND_GRID_BYTES])
+{
+    uint8_t told[16] = {0}, bytes[SECOND_GRID_BYTES] = {0};
+    uint32_t verdict = uisnabar_count(in->program, in->program_len, in->memory, in->memory_len, 0, 0, in->exec, in->exec_len, ext,
+                                      in->ext_len, bytes, sizeof bytes, told, sizeof told);
+    grid g;
+    grid_load(&g, bytes);
+    return verdict == load_word(answer) && memcmp(told, answer, sizeof told) == 0 && memcmp(bytes, mirror, sizeof bytes) == 0
+        && total_of(&g).low == (verdict == ACCEPTED ? in->height : 0);
+}
+
+/* Both judges and both counts on the input with this extension table; false where they differ or the verdict is another. A count from a fresh
+ * grid has the judge's answer, so the second judges once. */
 static bool judge_both(const speed_input *in, const uint8_t *ext, expected e)
 {
-    uint8_t first[16] = {0}, second[16];
+    uint8_t first[16] = {0}, second[16], mirror[SECOND_GRID_BYTES] = {0};
     uint32_t verdict = uisnabar_judge(in->program, in->program_len, in->memory, in->memory_len, 0, 0, in->exec, in->exec_len, ext,
                                       in->ext_len, first, sizeof first);
-    second_answer a = second_judge_sorted(in->program, in->program_len, in->memory, in->memory_len, 0, 0, in->exec, in->exec_len, ext,
-                                          in->ext_len);
+    second_answer a = second_count_sorted(in->program, in->program_len, in->memory, in->memory_len, 0, 0, in->exec, in->exec_len, ext,
+                                          in->ext_len, mirror);
     put_answer(second, a);
     bool good = verdict == a.verdict && verdict == e.verdict && memcmp(first, second, sizeof first) == 0;
-    printf("large, %s: verdict %" PRIu32 ", second %" PRIu32 " part %" PRIu32 " place %" PRIu32 "%s\n", e.name, verdict, a.verdict, a.part,
-           a.place, good ? "" : ": DIFFERENCE");
-    return good;
+    bool counted = counts(in, ext, second, mirror);
+    printf("large, %s: verdict %" PRIu32 ", second %" PRIu32 " part %" PRIu32 " place %" PRIu32 "%s%s\n", e.name, verdict, a.verdict, a.part,
+           a.place, good ? "" : ": DIFFERENCE", counted ? "" : ": DIFFERENCE IN THE COUNT");
+    return good && counted;
 }
 
 static bool try_size(unsigned height_log)

@@ -10,6 +10,8 @@
 static const size_t most[PARTS] = { (size_t)1 << 20, (size_t)1 << 29,
                                     (size_t)1 << 25, (size_t)1 << 20 };
 
+static const enum function functions[] = { JUDGE, TABLER, COUNT };
+
 static void try_limit(differ *d, enum function f, int part, size_t count,
                       uint8_t *zeros)
 {
@@ -19,7 +21,8 @@ static void try_limit(differ *d, enum function f, int part, size_t count,
         t.lent[i] = (buffer){ bytes[i], 256 * unit_of(i), false };
     store_word(bytes[PROGRAM], P);
     t.lent[part] = (buffer){ zeros, unit_of(part) * count, true };
-    t.lent[PARTS].len = 16;
+    t.lent[PARTS].len = f == COUNT ? SECOND_GRID_BYTES : 16;
+    t.lent[PARTS + 1].len = f == COUNT ? 16 : 0;
     note_back(d, 0);
     note(d, "part %d with %zu of %zu bytes", part + 1, count, unit_of(part));
     compare(d, &t);
@@ -37,8 +40,8 @@ void try_limits(differ *d)
     }
     for (int part = 0; part < PARTS; part++) {
         size_t next = part == PROGRAM ? most[part] + 1 : 2 * most[part];
-        for (int i = 0; i < 4 && more_calls(d); i++)
-            try_limit(d, i < 2 ? JUDGE : TABLER, part,
+        for (int i = 0; i < 6 && more_calls(d); i++)
+            try_limit(d, functions[i / 2], part,
                       i % 2 == 0 ? most[part] : next, zeros);
     }
     munmap(zeros, bytes);

@@ -1,6 +1,7 @@
 /* Compares the library with the second implementation, call by call.
  *
- *   differ SEED CALLS             stops after that many calls
+ *   differ SEED CALLS             stops after that many calls, counts and
+ *                                 reports not among them
  *   differ SEED 0 SECONDS         stops after that long
  *   differ --page SEED CALLS      buffers at pages that fault, small stack
  *   differ --large                a few tables of 16,383 and of 32,767 groups
@@ -34,21 +35,29 @@ static double seconds_now(void)
     return (double)t.tv_sec + (double)t.tv_nsec / 1e9;
 }
 
-/* Labels and recipes between worlds, until calls or seconds are used up. */
+/* A world, then labels, recipes and a report; all forms now and then. */
+static void one_turn(differ *d, uint32_t turn)
+{
+    if (turn % 16 == 0)
+        try_forms(d);
+    try_world(d);
+    for (int i = 0; i < 5 && more_calls(d); i++)
+        try_label(d);
+    if (more_calls(d))
+        try_writer(d);
+    if (more_calls(d))
+        try_maker(d);
+    try_report(d);
+}
+
+/* Until calls or seconds are used up. */
 static void run(differ *d, uint64_t seconds)
 {
     double from = seconds_now();
     try_limits(d);
-    while (more_calls(d)
-           && (seconds == 0 || seconds_now() - from < (double)seconds)) {
-        try_world(d);
-        for (int i = 0; i < 5 && more_calls(d); i++)
-            try_label(d);
-        if (more_calls(d))
-            try_writer(d);
-        if (more_calls(d))
-            try_maker(d);
-    }
+    for (uint32_t turn = 0; more_calls(d)
+         && (seconds == 0 || seconds_now() - from < (double)seconds); turn++)
+        one_turn(d, turn);
 }
 
 static int usage(void)
@@ -71,7 +80,7 @@ int main(int argc, char **argv)
         || (calls == 0) != (seconds != 0))
         return usage();
     printf("seed %" PRIu64 "\n", seed);
-    if (!differ_open(&all, seed, paged) || !rounds_open()) {
+    if (!differ_open(&all, seed, paged) || !rounds_open() || !forms_open()) {
         fprintf(stderr, "differ: no room\n");
         return 2;
     }
@@ -81,8 +90,10 @@ int main(int argc, char **argv)
     }
     all.limit = calls == 0 ? UINT64_MAX : calls;
     run(&all, seconds);
+    end_campaign(&all);
     bool complete = tally_report(&all.reached);
-    printf("calls: %" PRIu64 "\ndifferences: %" PRIu64 "\n", all.calls,
+    printf("calls: %" PRIu64 ", and %" PRIu64 " counts and reports\n"
+           "differences: %" PRIu64 "\n", all.calls - all.counts, all.counts,
            all.differences);
     return complete && all.differences == 0 ? 0 : 1;
 }

@@ -1,4 +1,4 @@
-/* One world, tabled and judged as it is and in many other ways. */
+/* One world, tabled, judged and counted as it is and in many other ways. */
 #include "tries.h"
 
 enum { JUDGED = 10 };
@@ -40,6 +40,12 @@ static void try_spoiled_tabler(differ *d)
     try_tabler(d, &other);
 }
 
+static void judge_and_count(differ *d, const world *w)
+{
+    try_judge(d, w);
+    try_count(d, w);
+}
+
 static void try_damaged_judge(differ *d)
 {
     world_copy(&other, &right);
@@ -51,7 +57,7 @@ static void try_damaged_judge(differ *d)
     }
     if (once_in(&d->random, 6))
         spoil(d, &other, PARTS);
-    try_judge(d, &other);
+    judge_and_count(d, &other);
 }
 
 void try_world(differ *d)
@@ -69,7 +75,7 @@ void try_world(differ *d)
     int times = a.verdict == ACCEPTED ? JUDGED : 1;
     for (int i = 0; i < times && more_calls(d); i++) {
         if (i == 0)
-            try_judge(d, &right);
+            judge_and_count(d, &right);
         else
             try_damaged_judge(d);
         note_back(d, mark);

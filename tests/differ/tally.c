@@ -4,12 +4,34 @@
 #include <stdio.h>
 
 const char *const function_names[FUNCTIONS] = {
-    "judge", "label reader", "tabler", "maker", "label writer"
+    "judge", "label reader", "tabler", "maker", "label writer", "count",
+    "report"
 };
 
 static const char *const verdict_names[VERDICTS] = {
     "ACCEPTED", "SIZE", "WORD", "INSTRUCTION", "START", "EXEC", "EXTENSION",
-    "BUS", "LABEL", "STUCK", "ROOM", "OPEN", "SELF", "ANSWER"
+    "BUS", "LABEL", "STUCK", "ROOM", "OPEN", "SELF", "ANSWER", "GRID"
+};
+
+static const char *const case_names[GRID_CASES] = {
+    [FRESH_COUNTED] = "fresh grid counted",
+    [CARRIED] = "carry past 32 bits",
+    [LIMIT_TAKEN] = "2^63 - 1 taken",
+    [LIMIT_PASSED] = "2^63 refused",
+    [SUM_WRAPS] = "sum that wraps refused",
+    [ALL_FULL] = "all 2^64 - 1 refused",
+    [REFUSED_FIRST] = "judge before limit",
+    [GRID_LENGTH] = "count's grid length",
+    [ANSWER_LENGTH] = "count's answer length",
+    [EMPTY_REPORT] = "empty report",
+    [EXACT_ROOM] = "report in exact room",
+    [MORE_ROOM] = "report in more room",
+    [ONE_BYTE_SHORT] = "room one byte short",
+    [NO_ROOM] = "no room",
+    [LONGEST_REPORT] = "longest report",
+    [REPORT_GRID_LENGTH] = "report's grid length",
+    [WRITTEN_LENGTH] = "report's written length",
+    [REPORT_ANSWER_LENGTH] = "report's answer length",
 };
 
 /* Which verdicts each function must reach.  SELF is the replay program's; the
@@ -24,6 +46,11 @@ static const bool expected[FUNCTIONS][VERDICTS] = {
                  [ROOM] = true, [OPEN] = true, [ANSWER] = true },
     [MAKER] = { [ACCEPTED] = true, [SIZE] = true, [ANSWER] = true },
     [LABEL_WRITER] = { [ACCEPTED] = true, [SIZE] = true },
+    [COUNT] = { [ACCEPTED] = true, [SIZE] = true, [WORD] = true,
+                [INSTRUCTION] = true, [START] = true, [EXEC] = true,
+                [EXTENSION] = true, [BUS] = true, [ANSWER] = true,
+                [GRID] = true },
+    [REPORT] = { [ACCEPTED] = true, [SIZE] = true, [ANSWER] = true },
 };
 
 /* A number outside its table is a difference's business, not the tally's. */
@@ -59,7 +86,7 @@ typedef struct {
     uint32_t first, last; /* each from first to last must be reached */
 } line;
 
-enum { LINES = 12 };
+enum { LINES = 15 };
 
 static void lines_of(const tally *t, line out[LINES])
 {
@@ -76,6 +103,9 @@ static void lines_of(const tally *t, line out[LINES])
         { "judge's WORD part", t->word[JUDGE], 1, LAST_PART },
         { "tabler's WORD part", t->word[TABLER], 1, 2 },
         { "LABEL place", t->place, 0, LAST_PLACE },
+        { "count's SIZE part", t->size[COUNT], 1, LAST_PART },
+        { "count's WORD part", t->word[COUNT], 1, LAST_PART },
+        { "report's SIZE part", t->size[REPORT], LAST_SIZE_PART, LAST_SIZE_PART },
     };
     for (int i = 0; i < LINES; i++)
         out[i] = all[i];
@@ -93,6 +123,14 @@ static void print_calls(const tally *t)
     }
 }
 
+static void print_cases(const tally *t)
+{
+    printf("grids:");
+    for (int i = 0; i < GRID_CASES; i++)
+        printf("%s %s:%" PRIu64, i == 0 ? "" : ",", case_names[i], t->cases[i]);
+    printf("\n");
+}
+
 /* The list of what is missing; gives its length. */
 static uint32_t print_missing(const tally *t, const line lines[LINES])
 {
@@ -108,6 +146,9 @@ static uint32_t print_missing(const tally *t, const line lines[LINES])
             if (lines[i].table[k] == 0)
                 printf("%s %s %" PRIu32, missing++ == 0 ? "" : ",",
                        lines[i].name, k);
+    for (int i = 0; i < GRID_CASES; i++)
+        if (t->cases[i] == 0)
+            printf("%s %s", missing++ == 0 ? "" : ",", case_names[i]);
     printf("%s\n", missing == 0 ? " nothing" : "");
     return missing;
 }
@@ -123,5 +164,7 @@ bool tally_report(const tally *t)
             printf(" %" PRIu32 ":%" PRIu64, k, lines[i].table[k]);
         printf("\n");
     }
-    return print_missing(t, lines) == 0;
+    print_cases(t);
+    bool complete = print_missing(t, lines) == 0;
+    return forms_report(t->forms) && complete;
 }

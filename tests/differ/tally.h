@@ -6,15 +6,23 @@
 
 #include "../second/second.h"
 
-enum function { JUDGE, LABEL_READER, TABLER, MAKER, LABEL_WRITER, FUNCTIONS };
+enum function { JUDGE, LABEL_READER, TABLER, MAKER, LABEL_WRITER, COUNT, REPORT,
+                FUNCTIONS };
 
-/* Document 01's verdicts. */
+/* The documents' verdicts. */
 enum { ACCEPTED, SIZE, WORD, INSTRUCTION, START, EXEC, EXTENSION, BUS, LABEL,
-       STUCK, ROOM, OPEN, SELF, ANSWER, VERDICTS };
+       STUCK, ROOM, OPEN, SELF, ANSWER, GRID, VERDICTS };
 
 /* The last place is that of a byte after the longest label. */
 enum { LAST_EXEC_RULE = 16, LAST_EXT_RULE = 21, LAST_STUCK_RULE = 8,
        LAST_SIZE_PART = 5, LAST_PART = 4, LAST_PLACE = 37 };
+
+/* What counts and reports must meet besides verdicts; names are in tally.c. */
+enum grid_case { FRESH_COUNTED, CARRIED, LIMIT_TAKEN, LIMIT_PASSED, SUM_WRAPS,
+                 ALL_FULL, REFUSED_FIRST, GRID_LENGTH, ANSWER_LENGTH,
+                 EMPTY_REPORT, EXACT_ROOM, MORE_ROOM, ONE_BYTE_SHORT, NO_ROOM,
+                 LONGEST_REPORT, REPORT_GRID_LENGTH, WRITTEN_LENGTH,
+                 REPORT_ANSWER_LENGTH, GRID_CASES };
 
 typedef struct {
     uint64_t calls[FUNCTIONS], verdicts[FUNCTIONS][VERDICTS];
@@ -22,13 +30,20 @@ typedef struct {
     uint64_t stuck[LAST_STUCK_RULE + 1], bus[LAST_PART + 1];
     uint64_t size[FUNCTIONS][LAST_SIZE_PART + 1], word[FUNCTIONS][LAST_PART + 1];
     uint64_t place[LAST_PLACE + 1];
+    uint64_t cases[GRID_CASES];
+    uint64_t forms[SECOND_COUNTERS]; /* rows that the library counted */
 } tally;
 
 extern const char *const function_names[FUNCTIONS];
 
 void tally_add(tally *t, enum function f, second_answer a);
 
-/* Prints all counts and what was not reached; true if nothing is missing. */
+/* forms.c: prints how many of the possible forms have rows, and which not; true
+ * if all of them have and no other has. */
+bool forms_report(const uint64_t rows[SECOND_COUNTERS]);
+
+/* Prints all counts and what was not reached; true if nothing is missing, and
+ * no form was counted that is not possible. */
 bool tally_report(const tally *t);
 
 #endif

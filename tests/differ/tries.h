@@ -2,6 +2,7 @@
 #ifndef DIFFER_TRIES_H
 #define DIFFER_TRIES_H
 
+#include "grids.h"
 #include "world.h"
 
 /* labels.c: a label, valid or not, to the reader. */
@@ -12,6 +13,21 @@ second_recipe some_recipe(source *random, bool in_range);
 size_t some_answer_length(source *random);
 void try_writer(differ *d);
 void try_maker(differ *d);
+
+/* counts.c: a count of a world's tables, from some grid or a campaign's; one
+ * with a grid given, which is then as the library left it; a grid's report. */
+void try_count(differ *d, const world *w);
+second_answer count_world(differ *d, const world *w, size_t grid_len,
+                          size_t answer_len, grid *g);
+void try_report(differ *d);
+void report_grid(differ *d, const grid *g);
+
+/* Whether the campaign's total is the rows of what was accepted. */
+void end_campaign(differ *d);
+
+/* forms.c: a program that has every form, against the numbers it was made of. */
+bool forms_open(void);
+void try_forms(differ *d);
 
 /* large.c: tables of many groups; false where the two differ. */
 bool try_large(void);

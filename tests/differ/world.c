@@ -75,7 +75,7 @@ static size_t answer_length(source *random)
     return once_in(random, 24) ? lengths[below(random, 5)] : 16;
 }
 
-static attempt attempt_on(differ *d, enum function f, const world *w)
+attempt attempt_on(differ *d, enum function f, const world *w)
 {
     attempt t = { .function = f, .pc = w->pc, .fp = w->fp };
     for (int i = 0; i < PARTS; i++)

@@ -1,4 +1,4 @@
-/* The four parts of a judge's or tabler's call, with the start. */
+/* The four parts of a judge's, count's or tabler's call, with the start. */
 #ifndef DIFFER_WORLD_H
 #define DIFFER_WORLD_H
 
@@ -65,6 +65,9 @@ void world_copy(world *to, const world *from);
 /* A world made by a recipe or built step by step, with lengths for both
  * tables but not the tables. */
 void world_make(differ *d, world *w);
+
+/* A call on a world, with an answer buffer of mostly the right length. */
+attempt attempt_on(differ *d, enum function f, const world *w);
 
 /* Calls of the tabler and of the judge on a world. */
 void try_tabler(differ *d, const world *w);

@@ -1,5 +1,6 @@
 /* Labels: four lines, v=1, seed, m and n. */
 #include "parts.h"
+#include "text.h"
 
 #include <string.h>
 
@@ -84,28 +85,10 @@ second_answer second_read_label(const uint8_t *text, size_t len,
     return good ? answer(ACCEPTED, 0, 0, 0) : answer(LABEL, 0, c.at, 0);
 }
 
-static uint8_t *append(uint8_t *to, const char *text)
-{
-    for (; *text != 0; text++)
-        *to++ = (uint8_t)*text;
-    return to;
-}
-
 static uint8_t *append_hex(uint8_t *to, uint64_t number)
 {
     for (int shift = 60; shift >= 0; shift -= 4)
         *to++ = (uint8_t)"0123456789abcdef"[number >> shift & 15];
-    return to;
-}
-
-/* A number below 1000, no leading zero. */
-static uint8_t *append_decimal(uint8_t *to, uint32_t number)
-{
-    if (number >= 100)
-        *to++ = (uint8_t)('0' + number / 100);
-    if (number >= 10)
-        *to++ = (uint8_t)('0' + number / 10 % 10);
-    *to++ = (uint8_t)('0' + number % 10);
     return to;
 }
 

@@ -6,7 +6,7 @@
 #include "word.h"
 
 enum { ACCEPTED, SIZE, WORD, INSTRUCTION, START, EXEC, EXTENSION, BUS, LABEL,
-       STUCK, ROOM, OPEN };
+       STUCK, ROOM, OPEN, GRID = 14 };
 
 enum { FORM_BYTES = 48, EXEC_BYTES = 32, EXT_BYTES = 120 };
 

@@ -1,5 +1,6 @@
-/* A second judge, tabler, maker and label reader and writer for leanVM test
- * tables, written from the documents alone (see README.md).
+/* A second judge, counter of instruction forms, tabler, maker and label reader
+ * and writer for leanVM test tables, written from the documents alone (see
+ * README.md).
  *
  * No function here keeps state, so all may be called from several threads.
  * A pointer may be NULL where its length is 0.  Buffers must not overlap. */
@@ -36,6 +37,34 @@ second_answer second_judge_sorted(const uint8_t *program, size_t program_len,
                                   uint64_t pc, uint64_t fp,
                                   const uint8_t *exec, size_t exec_len,
                                   const uint8_t *ext, size_t ext_len);
+
+/* Counters of a grid, 8 bytes each, little-endian: counter 27 * kind + 9 * A +
+ * 3 * B + C, kinds ADD, MUL, DEREF, JUMP and extension, modes immediate, cell
+ * and fp-relative, each from 0. */
+enum { SECOND_COUNTERS = 135, SECOND_GRID_BYTES = 8 * SECOND_COUNTERS };
+
+/* Judges, and where all is accepted adds one to the grid for each execution
+ * row.  GRID, tested last, where the total would pass 2^63 - 1.  The grid may
+ * hold anything; it changes on ACCEPTED alone. */
+second_answer second_count(const uint8_t *program, size_t program_len,
+                           const uint8_t *memory, size_t memory_len,
+                           uint64_t pc, uint64_t fp,
+                           const uint8_t *exec, size_t exec_len,
+                           const uint8_t *ext, size_t ext_len, uint8_t *grid);
+
+/* The same, by second_judge_sorted. */
+second_answer second_count_sorted(const uint8_t *program, size_t program_len,
+                                  const uint8_t *memory, size_t memory_len,
+                                  uint64_t pc, uint64_t fp,
+                                  const uint8_t *exec, size_t exec_len,
+                                  const uint8_t *ext, size_t ext_len,
+                                  uint8_t *grid);
+
+/* Writes a line for each counter that is not 0, and the report's length; where
+ * it does not fit, SIZE part 5, no byte of text changes and *written is 0.
+ * Bytes of text after the report keep what they held. */
+second_answer second_report(const uint8_t *grid, uint8_t *text, size_t text_len,
+                            uint64_t *written);
 
 /* Runs the program and fills both tables.  Verdicts 1 to 4 change no byte;
  * 9, 10 and 11 leave both tables all zero. */

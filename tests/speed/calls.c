@@ -7,7 +7,7 @@
 #include "../differ/library.h"
 #include "../second/second.h"
 
-static uint8_t answer[16], recipe[16];
+static uint8_t answer[16], recipe[16], grid[SECOND_GRID_BYTES];
 
 void expect(uint32_t verdict, uint32_t wanted, const char *what)
 {
@@ -51,6 +51,21 @@ uint32_t second_sorts(job *j)
     speed_input *in = j->in;
     return told(second_judge_sorted(in->program, in->program_len, in->memory, in->memory_len, 0, 0, in->exec, in->exec_len, j->ext,
                                     in->ext_len));
+}
+
+/* the grid fills up from call to call, and is never near its limit */
+uint32_t library_count(job *j)
+{
+    speed_input *in = j->in;
+    return uisnabar_count(in->program, in->program_len, in->memory, in->memory_len, 0, 0, in->exec, in->exec_len, j->ext, in->ext_len,
+                          grid, sizeof grid, answer, sizeof answer);
+}
+
+uint32_t second_counts(job *j)
+{
+    speed_input *in = j->in;
+    return told(second_count(in->program, in->program_len, in->memory, in->memory_len, 0, 0, in->exec, in->exec_len, j->ext, in->ext_len,
+                             grid));
 }
 
 uint32_t library_table(job *j)

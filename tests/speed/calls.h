@@ -28,6 +28,8 @@ size_t write_label(job *j, uint32_t n);
 uint32_t library_judge(job *j);
 uint32_t second_judges(job *j);
 uint32_t second_sorts(job *j);
+uint32_t library_count(job *j);
+uint32_t second_counts(job *j);
 uint32_t library_table(job *j);
 uint32_t second_tables(job *j);
 uint32_t library_make(job *j);

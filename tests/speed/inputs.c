@@ -215,6 +215,15 @@ speed_input speed_dense(unsigned height_log, unsigned ext_log)
     return in;
 }
 
+speed_input speed_halted(unsigned height_log)
+{
+    speed_input in = blank(height_log, 8, 8);
+    builder b = {.in = &in};
+    in.program_len = 48;
+    jump(&b, 0, 1, 0);
+    return in;
+}
+
 void speed_free(speed_input *in)
 {
     free(in->program);

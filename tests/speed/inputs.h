@@ -25,6 +25,9 @@ void speed_unpull(speed_input *in);
  * tables are written. Of the tables refused at the bus that we know, the judge takes longest for this one. */
 speed_input speed_dense(unsigned height_log, unsigned ext_log);
 
+/* Program and memory of a run that stays on its one instruction: of all tables the judge takes least for a row of these. */
+speed_input speed_halted(unsigned height_log);
+
 void speed_free(speed_input *in);
 
 #endif

@@ -1,7 +1,7 @@
 /* Times the library beside the second implementation, both on the same buffers in one run.
  *
  * A time is the least of several runs, taken in turn. Nothing is cleared between runs; the tables are written by both tablers before
- * the judges read them. */
+ * the judges read them. Ends with 1 where counting takes more than its budget beside judging. */
 #define _POSIX_C_SOURCE 200809L
 #include <stdio.h>
 #include <stdlib.h>
@@ -11,6 +11,10 @@
 #include "calls.h"
 
 enum { SIZES = 3, REFUSED = 4, ROUNDS = 41, FEW = 3, BUS = 7 };
+
+/* Counting takes at most so many times what judging the same table takes. */
+static const double budget = 1.25;
+static int over_budget;
 
 static double seconds(void)
 {
@@ -101,6 +105,18 @@ static void bytes_each_second(const compared *c)
            bytes / taken / 1e6);
 }
 
+/* The count beside the second's, then beside the library's own judge of the same tables. */
+static void counts(const char *beside_second, const char *beside_judge, compared *c, int sizes)
+{
+    double most = 0;
+    compare(beside_second, c, sizes, ROUNDS, library_count, second_counts);
+    compare(beside_judge, c, sizes, ROUNDS, library_count, library_judge);
+    for (int s = 0; s < sizes; s++)
+        most = c[s].ratios[ROUNDS / 2] > most ? c[s].ratios[ROUNDS / 2] : most;
+    over_budget |= most > budget;
+    printf("%-34s %-26s at most %.3f of judging, of a budget of %.2f%s\n", "", "", most, budget, most > budget ? ": OVER IT" : "");
+}
+
 static void tables(void)
 {
     static const unsigned logs[SIZES][3] = {{12, 10, 14}, {15, 13, 17}, {18, 16, 20}};
@@ -116,12 +132,31 @@ static void tables(void)
     compare("judge", c, SIZES, ROUNDS, library_judge, second_judges);
     for (int s = 0; s < SIZES; s++)
         bytes_each_second(&c[s]);
+    counts("count", "count; beside library's judge", c, SIZES);
     for (int s = 0; s < SIZES; s++) {
         speed_shuffle(&in[s], 2);
         c[s].j.ext = in[s].shuffled;
     }
     compare("judge, groups shuffled; sorted", c, SIZES, ROUNDS, library_judge, second_sorts);
     compare("judge, groups shuffled; counted", c, 2, 1, library_judge, second_judges);
+    for (int s = 0; s < SIZES; s++)
+        speed_free(&in[s]);
+}
+
+/* Rows of one halting jump, which are judged fastest, so that counting them weighs most. */
+static void halted(void)
+{
+    static const unsigned logs[SIZES] = {12, 15, 18};
+    static const char *const names[SIZES] = {"H 2^12, K 2^8, m 8", "H 2^15, K 2^8, m 8", "H 2^18, K 2^8, m 8"};
+    static speed_input in[SIZES];
+    static compared c[SIZES];
+    for (int s = 0; s < SIZES; s++) {
+        in[s] = speed_halted(logs[s]);
+        c[s] = (compared){.size = names[s], .units = (double)in[s].height};
+        c[s].j = (job){.in = &in[s], .ext = in[s].ext, .calls = s == 0 ? 16 : s == 1 ? 2 : 1};
+        expect(library_table(&c[s].j), 0, "tabler");
+    }
+    counts("count, halting rows", "count, halting; library's judge", c, SIZES);
     for (int s = 0; s < SIZES; s++)
         speed_free(&in[s]);
 }
@@ -160,6 +195,8 @@ static void whole(void)
     in.memory_len = 4 << 10;
     compare("a label's whole way", c, 1, ROUNDS, library_whole, second_whole);
     printf("%-34s %-26s library %.0f labels each second, second %.0f\n", "", c[0].size, 1 / c[0].library, 1 / c[0].second);
+    /* of the tables that the last of them left */
+    counts("count, a label's tables", "count, a label's; library's judge", c, 1);
     speed_free(&in);
 }
 
@@ -194,10 +231,11 @@ int main(void)
 {
     printf("%-34s %-26s %10s %10s %7s %7s %8s %7s\n", "", "", "library ns", "second ns", "ratio", "growth", "second's", "in all");
     tables();
+    halted();
     refused(0);
     refused(1);
     makers();
     labels();
     whole();
-    return 0;
+    return over_budget;
 }

@@ -1,4 +1,5 @@
-/* The stack that each exported function uses: the most over calls that take each of its ways, on a thread whose stack was painted before. */
+/* The stack that each exported function uses: the most over calls that take each of its ways, on a thread whose stack was painted before.
+ * Ends with 1 where one that customers call uses more than the header says. */
 #define _DEFAULT_SOURCE
 #include <pthread.h>
 #include <stdio.h>
@@ -13,7 +14,8 @@ enum { ROOM = 256 << 10, PAINT = 0xa5, GROUP = 4 * 120 };
 
 static uint8_t *stack;
 static speed_input in;
-static uint8_t answer[16], recipe[16], text[64];
+static uint8_t answer[16], recipe[16], text[64], grid[UISNABAR_GRID_BYTES], report_text[UISNABAR_REPORT_BYTES], written[8];
+static int above; /* a call that is exported used more than the header says */
 
 static void *nothing(void *ext)
 {
@@ -23,6 +25,19 @@ static void *nothing(void *ext)
 static void *judge(void *ext)
 {
     uisnabar_judge(in.program, in.program_len, in.memory, in.memory_len, 0, 0, in.exec, in.exec_len, ext, in.ext_len, answer, sizeof answer);
+    return NULL;
+}
+
+static void *count(void *ext)
+{
+    uisnabar_count(in.program, in.program_len, in.memory, in.memory_len, 0, 0, in.exec, in.exec_len, ext, in.ext_len, grid, sizeof grid,
+                   answer, sizeof answer);
+    return NULL;
+}
+
+static void *report(void *room)
+{
+    uisnabar_report(grid, sizeof grid, report_text, *(size_t *)room, written, sizeof written, answer, sizeof answer);
     return NULL;
 }
 
@@ -74,18 +89,45 @@ static size_t most(size_t a, size_t b)
 }
 
 /* Tables in order, in another order, and with one group in the place of another, so that the bus takes every way. */
-static size_t of_judge(void)
+static size_t over_tables(void *(*work)(void *))
 {
-    size_t used = touched(judge, in.ext);
+    size_t used = touched(work, in.ext);
     speed_shuffle(&in, 2);
-    used = most(used, touched(judge, in.shuffled));
+    used = most(used, touched(work, in.shuffled));
     memcpy(in.shuffled + (size_t)GROUP * 900, in.shuffled + (size_t)GROUP * 1200, GROUP);
-    return most(used, touched(judge, in.shuffled));
+    return most(used, touched(work, in.shuffled));
+}
+
+/* From a fresh grid, and from a full one that is refused. */
+static size_t of_count(void)
+{
+    memset(grid, 0, sizeof grid);
+    size_t used = over_tables(count);
+    memset(grid, 0xff, sizeof grid);
+    return most(used, over_tables(count));
+}
+
+/* The longest report, and one that has no room. */
+static size_t of_report(void)
+{
+    size_t rooms[] = {sizeof report_text, sizeof report_text - 1};
+    memset(grid, 0xff, sizeof grid);
+    return most(touched(report, &rooms[0]), touched(report, &rooms[1]));
 }
 
 static void line(const char *name, size_t used, size_t start)
 {
     printf("%s: %zu bytes of stack\n", name, used - start);
+}
+
+/* A line for a call that customers make, and how much the header lets it use. */
+static void exported(const char *name, size_t used, size_t start, size_t most_used)
+{
+    line(name, used, start);
+    if (used - start <= most_used)
+        return;
+    printf("%s: MORE than the header says, %zu\n", name, most_used);
+    above = 1;
 }
 
 int main(void)
@@ -96,10 +138,12 @@ int main(void)
     in = speed_build(15, 13, 17, 1);
     size_t start = touched(nothing, NULL);
     line("tabler", touched(tabler, NULL), start);
-    line("uisnabar_judge", of_judge(), start);
-    line("uisnabar_label", touched(label, NULL), start);
+    exported("uisnabar_judge", over_tables(judge), start, UISNABAR_STACK_BYTES);
+    exported("uisnabar_count", of_count(), start, UISNABAR_COUNT_STACK_BYTES);
+    exported("uisnabar_report", of_report(), start, UISNABAR_STACK_BYTES);
+    exported("uisnabar_label", touched(label, NULL), start, UISNABAR_STACK_BYTES);
     line("label writer", touched(writer, NULL), start);
     line("maker", touched(maker, NULL), start);
     speed_free(&in);
-    return 0;
+    return above;
 }

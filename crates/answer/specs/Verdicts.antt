@@ -21,6 +21,7 @@ use Rattle.answer.specs.declared.Answer.the-variants.{
   Open,
   Itself,
   Buffer,
+  Grid,
 }
 
 abbrev four : ℕ → ℕ → ℕ → ℕ → Numbers
@@ -41,6 +42,7 @@ numbersOf (Room row) = four 10 0 row 0
 numbersOf (Open row) = four 11 0 row 0
 numbersOf Itself = four 12 0 0 0
 numbersOf Buffer = four 13 0 0 0
+numbersOf Grid = four 14 0 0 0
 
 -- verdict 0
 abbrev pub accepted : Answer → Bool

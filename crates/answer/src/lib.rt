@@ -1,4 +1,4 @@
-// The answers of document 01, "Verdicts": an enum, and its four numbers.
+// The answers of document 01, "Verdicts", and of document 02's requests: an enum, and its four numbers.
 ghost use mathlib.Core.Path.{_≡_};
 ghost use Rattle.answer.specs.Verdicts.{numbersOf, accepted};
 
@@ -18,6 +18,7 @@ pub enum Answer {
     Open { row: u32 },
     Itself,
     Buffer,
+    Grid,
 }
 
 // An answer as the paper counts it. What a verdict does not name is 0.
@@ -58,6 +59,7 @@ pub fn four_numbers(a: Answer) -> Numbers
         Answer::Open { row } => four(11, 0, row, 0),
         Answer::Itself => four(12, 0, 0, 0),
         Answer::Buffer => four(13, 0, 0, 0),
+        Answer::Grid => four(14, 0, 0, 0),
     }
 }
 

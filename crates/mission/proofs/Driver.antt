@@ -19,7 +19,7 @@ use Rattle.judge_spec.proofs.Narrow.{Narrow, answer-narrow}
 use Rattle.reply.specs.Reply.{returned, answerWords}
 use Rattle.mission.specs.Promises.{JudgeCall}
 use Rattle.mission.specs.Driver.{numbersIn, DriverReads}
-use Rattle.mission.proofs.Numbers.{verdict-zero}
+use Rattle.answer.proofs.Named.{verdict-zero}
 
 -- numbers below 2^32 read back from their 16 bytes
 pub numbers-back : (a : Answer) → Narrow (numbersOf a) → numbersIn (bytesOfWords (answerWords a)) ≡ numbersOf a

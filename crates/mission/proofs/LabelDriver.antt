@@ -27,7 +27,7 @@ use Rattle.reply.specs.Reply.{answerWords}
 use Rattle.uisnabar.specs.Calls.{bothFit, recipeWords}
 use Rattle.mission.specs.Promises.{ReaderCall}
 use Rattle.mission.specs.Driver.{numbersIn, recipeIn, DriverReadsLabel}
-use Rattle.mission.proofs.Numbers.{verdict-zero}
+use Rattle.answer.proofs.Named.{verdict-zero}
 use Rattle.mission.proofs.Driver.{numbers-back}
 
 -- what is shared with a label is no longer than it

@@ -1,4 +1,3 @@
-pub mod Numbers
 pub mod Effects
 pub mod Driver
 pub mod LabelDriver

@@ -19,7 +19,7 @@ use Rattle.run.proofs.Tabler.{run-accepted, run-left, own-bytes, refusal-keeps,
 use Rattle.mission.specs.One.{DemandOne}
 use Rattle.mission.specs.Two.{DemandTwo}
 use Rattle.mission.specs.Three.{DemandThree}
-use Rattle.mission.proofs.Numbers.{one-number}
+use Rattle.answer.proofs.Named.{one-number}
 use Rattle.mission.proofs.Effects.{maker-keeps, writer-keeps, reader-zeroes, judge-call-answer, reader-call-answer, reader-call-keeps}
 use Rattle.mission.proofs.Driver.{driver-reads}
 use Rattle.mission.proofs.LabelDriver.{driver-reads-label}

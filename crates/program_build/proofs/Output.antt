@@ -14,7 +14,7 @@ use Rattle.label.specs.Label.{ranged}
 use Rattle.label.specs.Reading.{Reads}
 use Rattle.label.specs.declared.Reading.{Reading}
 use Rattle.label.proofs.Label.{reading-determined}
-use Rattle.program_lines.proofs.Placing.{Stands, over-front}
+use Rattle.lines.proofs.Placing.{Stands, over-front}
 use Rattle.answer.specs.Verdicts.{accepted}
 use Rattle.program_build.specs.Output.{Fills, Outputs}
 use Rattle.program_build.proofs.Cut.{later-bytes}

@@ -1,6 +1,6 @@
 -- What is built of a recipe with m 10 in buffers of the right lengths.
 -- Assumes nothing.
-use mathlib.Core.Bool.{true, false}
+use mathlib.Core.Bool.{true}
 use mathlib.Core.List.{List}
 use mathlib.Core.Path.{_≡_, refl, sym, ap, _∙_}
 use Prim.Native.Nat.{ℕ, _+_, _*_, _^_, _≤_}
@@ -11,22 +11,7 @@ use lib.ListN.{length, take}
 use lib.Seq.{length-take-le}
 use Rattle.answer.specs.Verdicts.{accepted}
 use Rattle.answer.specs.declared.Answer.{Answer}
-use Rattle.answer.specs.declared.Answer.the-variants.{
-  Accepted,
-  Size,
-  Word,
-  Instruction,
-  Start,
-  Exec,
-  Extension,
-  Bus,
-  Label,
-  Stuck,
-  Room,
-  Open,
-  Itself,
-  Buffer,
-}
+use Rattle.answer.proofs.Named.{accepted-is}
 use Rattle.label.specs.Label.{ranged}
 use Rattle.label.proofs.Range.{n-high}
 use Rattle.label.specs.declared.Recipe.{Recipe}
@@ -35,25 +20,9 @@ use Rattle.tabler_spec.specs.Tabled.{tableOf, heldAfter, execAfter, extAfter}
 use Rattle.program_build.specs.Inner.{Spaces}
 use Rattle.program_build.specs.Recipes.{tabledOf, execTabled, extTabled}
 
-no : false ≡ true → ⊥
-no e = let z : _≡_ {A = ℕ} 0 1 = cc in omega arith
-
 -- ACCEPTED leaves what was written
 pub held : (a : Answer) (old written : List ℕ) → accepted a ≡ true → heldAfter a old written ≡ written
-held Accepted old written e = refl
-held (Size j k) old written e = absurd (no e)
-held (Word j k) old written e = absurd (no e)
-held (Instruction j) old written e = absurd (no e)
-held Start old written e = absurd (no e)
-held (Exec j k) old written e = absurd (no e)
-held (Extension j k) old written e = absurd (no e)
-held (Bus j k) old written e = absurd (no e)
-held (Label j) old written e = absurd (no e)
-held (Stuck j k) old written e = absurd (no e)
-held (Room j) old written e = absurd (no e)
-held (Open j) old written e = absurd (no e)
-held Itself old written e = absurd (no e)
-held Buffer old written e = absurd (no e)
+held a old written e = rw (accepted-is a e)
 
 module _ (r : Recipe) (p m e x : List ℕ) (room : Spaces r (length p) (length m) (length e) (length x)) where
   -- the four parts have room in 49,008 bytes

@@ -14,7 +14,7 @@ use Rattle.label.specs.declared.Recipe.{Recipe}
 use Rattle.maker.specs.Bytes.{programOf, memoryOf}
 use Rattle.judge_spec.specs.Judged.{judgeOf}
 use Rattle.program_build.specs.Recipes.{tabledOf, execTabled, extTabled}
-use Rattle.program_lines.specs.Line.{lineOf}
+use Rattle.lines.specs.Line.{lineOf}
 
 -- verdict=, part=, place= and rule=
 abbrev pub verdictText : List ℕ

@@ -23,6 +23,7 @@ use Rattle.answer.specs.declared.Answer.the-variants.{
   Open,
   Itself,
   Buffer,
+  Grid,
 }
 use Rattle.machine.specs.Machine.{State}
 use Rattle.tables.specs.Rows.{stateAt}
@@ -114,6 +115,7 @@ module _ (i : Input) (exec ext : List ℕ) where
   kept (Open row) old written h l = absurd (omega arith)
   kept Itself old written h l = refl
   kept Buffer old written h l = refl
+  kept Grid old written h l = refl
 
   -- 9 to 11 leave zeros
   zeroed : (a : Answer) (old written : List ℕ) → 9 ≤ numbersOf a .verdict → numbersOf a .verdict ≤ 11 → heldAfter a old written ≡ replicate (length old) 0
@@ -131,6 +133,7 @@ module _ (i : Input) (exec ext : List ℕ) where
   zeroed (Open row) old written h l = refl
   zeroed Itself old written h l = absurd (omega arith)
   zeroed Buffer old written h l = absurd (omega arith)
+  zeroed Grid old written h l = absurd (omega arith)
 
   pub refusal-keeps : 1 ≤ numbersOf (answerFor i exec ext) .verdict → numbersOf (answerFor i exec ext) .verdict ≤ 4
       → (execLeft i exec ext ≡ exec) × (extLeft i exec ext ≡ ext)

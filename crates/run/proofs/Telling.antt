@@ -27,6 +27,7 @@ use Rattle.answer.specs.declared.Answer.the-variants.{
   Open,
   Itself,
   Buffer,
+  Grid,
 }
 use Rattle.machine.specs.Machine.{State}
 use Rattle.rules.specs.Sizes.{Parts, given, tablesOf}
@@ -138,6 +139,7 @@ module _ (i : Input) (exec ext : List ℕ) where
       ∙ ap Open (sym (x .place))
   tells-only Itself x = absurd x
   tells-only Buffer x = absurd x
+  tells-only Grid x = absurd x
 
   -- the tabler gives an answer exactly where what it tells is so
   pub tells-exactly : (a : Answer) → (answerFor i exec ext ≡ a) ↔ Tells i exec ext a

@@ -29,6 +29,7 @@ use Rattle.answer.specs.declared.Answer.the-variants.{
   Open,
   Itself,
   Buffer,
+  Grid,
 }
 use Rattle.machine.specs.Machine.{Machine, State, value, legal}
 use Rattle.machine.specs.Extension.{elementAt, cellsExist, result, sameElement}
@@ -153,7 +154,7 @@ module _ (i : Input) (exec ext : List ℕ) where
     pub legal : LegalRun i height state
     pub spare : Spare i height extHeight state
 
-  -- what an answer of the tabler says; the verdicts 5 to 8, 12 and 13 are not the tabler's
+  -- what an answer of the tabler says; the verdicts 5 to 8 and 12 to 14 are not the tabler's
   unfoldable pub Tells : Answer → Type 0
   Tells Accepted = AcceptedRun
   Tells (Size n place) = BadSize allParts n place
@@ -169,3 +170,4 @@ module _ (i : Input) (exec ext : List ℕ) where
   Tells (Open r) = OpenAt r
   Tells Itself = ⊥
   Tells Buffer = ⊥
+  Tells Grid = ⊥

@@ -1,12 +1,12 @@
 // A recipe's parts, made and tabled.
 use answer::accepted;
 use label::Recipe;
+use lines::put;
 use program_build::build;
 use program_build::exec_space;
 use program_build::ext_space;
 use program_build::memory_space;
 use program_build::program_space;
-use program_lines::put;
 ghost use mathlib.Core.Bool.{true};
 ghost use mathlib.Core.List.{_++_};
 ghost use mathlib.Core.Path.{_≡_};

@@ -22,6 +22,7 @@ use Rattle.answer.specs.declared.Answer.the-variants.{
   Open,
   Itself,
   Buffer,
+  Grid,
 }
 use Rattle.machine.specs.Machine.{Machine, State}
 use Rattle.machine.specs.Step.{Outcome, goes, stuck, step}
@@ -88,6 +89,7 @@ heldAfter (Room row) old written = replicate (length old) 0
 heldAfter (Open row) old written = replicate (length old) 0
 heldAfter Itself old written = old
 heldAfter Buffer old written = old
+heldAfter Grid old written = old
 
 abbrev pub execAfter : List ℕ → List ℕ → ℕ → ℕ → List ℕ → List ℕ → List ℕ
 execAfter program memory pc fp exec ext =

@@ -1,7 +1,11 @@
-// The C library: the judge and the label reader, as include/uisnabar.h declares them.
+// The C library: the judge, form counts and the label reader, as include/uisnabar.h declares them.
+mod forms;
+
 use answer::Answer;
 use answer::accepted;
 use answer::four_numbers;
+pub use forms::uisnabar_count;
+pub use forms::uisnabar_report;
 use label::Recipe;
 use label::read_label;
 use reply::put_four;

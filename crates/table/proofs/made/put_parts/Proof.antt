@@ -5,7 +5,7 @@ use mathlib.Core.List.{_++_}
 use native.Mathlib.Omega.{arith}
 use lib.ListN.{length}
 use Rattle.program_build.proofs.Output.{fills-front}
-use Rattle.program_lines.proofs.Placing.{stands-four}
+use Rattle.lines.proofs.Placing.{stands-four}
 use Rattle.table.proofs.made.put_parts.Statement.{statement}
 use Rattle.table.proofs.made.put_parts.Tie as tie
 

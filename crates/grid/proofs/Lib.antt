@@ -1,0 +1,3 @@
+pub mod Words
+pub mod RowForms
+pub mod Answers

@@ -1,0 +1,6 @@
+pub mod Listed
+pub mod Counts
+pub mod Tables
+pub mod Campaign
+pub mod Order
+pub mod Fifty

@@ -1,0 +1,42 @@
+// Lines of a name and a number, as the programs and a report print them: documents 01, "Draws, recipe, label", and 02.
+mod decimal;
+
+use decimal::ended_digits;
+ghost use mathlib.Core.Path.{_≡_};
+ghost use Prim.Native.Nat.{_+_, _≤_};
+ghost use lib.ListN.{length};
+ghost use Rattle.lines.specs.Line.{over, lineOf};
+
+// The digits of a number and LF, the bytes of a text from a byte on.
+pub struct Digits {
+    bytes: [u8; 21],
+    from: usize,
+}
+
+// Bytes from a byte of the buffer on, and where they end.
+pub fn put(bytes: &[u8], at: usize, out: &mut [u8]) -> usize
+    requires { ⌜ at + length (now bytes) ≤ length (now out) ⌝ }
+    ensures { λ r. ⌜ (r ≡ at + length (now (bytes .entry))) × (now (out .exit) ≡ over (now (out .entry)) at (now (bytes .entry))) ⌝ }
+{
+    let mut i = 0;
+    while i < bytes.len() {
+        out[at + i] = bytes[i];
+        i += 1;
+    }
+    at + bytes.len()
+}
+
+// A line from a byte of the buffer on, and where it ends.
+pub fn put_line(name: &[u8], number: u64, at: usize, out: &mut [u8]) -> usize
+    requires { ⌜ at + length (lineOf (now name) number) ≤ length (now out) ⌝ }
+    ensures { λ r. ⌜
+        (r ≡ at + length (lineOf (now (name .entry)) number))
+        × (now (out .exit) ≡ over (now (out .entry)) at (lineOf (now (name .entry)) number))
+        ⌝ }
+{
+    let digits = ended_digits(number);
+    let bytes = digits.bytes;
+    let from = digits.from;
+    let middle = put(name, at, out);
+    put(&bytes[from..], middle, out)
+}

@@ -1,0 +1,3 @@
+pub mod CountEnds
+pub mod ReportEnds
+pub mod Calls

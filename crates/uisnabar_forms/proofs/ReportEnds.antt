@@ -1,0 +1,57 @@
+-- The two ends of a call that reports: a buffer of another length, and an answer.
+-- Assumes nothing.
+use mathlib.Core.Path.{_≡_, refl, sym, ap, _∙_}
+use mathlib.Core.Bool.{Bool, true, false, cond, _&&_}
+use mathlib.Core.List.{List, [], _∷_, _++_, append-nil}
+use Prim.Native.Nat.{ℕ, _+_}
+use native.Mathlib.Omega.{arith}
+use lib.Dec.{eqb}
+use lib.ListN.{length, take, drop, drop-of-length-le}
+use borrow.Author.Tests.{eqb-true}
+use Rattle.word.proofs.Tests.{each}
+use Rattle.answer.specs.declared.Answer.{Answer}
+use Rattle.answer.specs.declared.Answer.the-variants.{Buffer}
+use Rattle.long.specs.Long.{longBytes}
+use Rattle.reply.specs.Reply.{verdictOf, returned, replied}
+use Rattle.grid_spec.specs.Report.{reportAnswer, reportLength, reportedIn}
+use Rattle.grid_bytes.specs.GridBytes.{gridOf}
+use Rattle.uisnabar_forms.specs.ReportCall.{reportFits, reportReturned, reportTextLeft, reportWrittenLeft, reportAnswerLeft}
+
+module _ (grid text written answer : List ℕ) where
+  -- what a call owes, as its promise nests it
+  abbrev pub Reports : ℕ → List ℕ → List ℕ → List ℕ → Type 0
+  Reports r textAfter writtenAfter answerAfter =
+      (r ≡ reportReturned grid text written answer)
+      × ((textAfter ≡ reportTextLeft grid text written answer)
+      × ((writtenAfter ≡ reportWrittenLeft grid text written answer) × (answerAfter ≡ reportAnswerLeft grid text written answer)))
+
+  pub unfit-call : reportFits grid text written answer ≡ false → (r : ℕ) → r ≡ verdictOf Buffer → Reports r text written answer
+  unfolding reportReturned reportTextLeft reportWrittenLeft reportAnswerLeft
+  unfit-call e r told = (rw e told, (rw e, (rw e, rw e)))
+
+  module _ (e : reportFits grid text written answer ≡ true) where
+    lengths : (eqb (length grid) 1080 ≡ true) × (eqb (length written) 8 ≡ true) × (eqb (length answer) 16 ≡ true)
+    lengths =
+        let t = each (eqb (length grid) 1080) (eqb (length written) 8 ∷ eqb (length answer) 16 ∷ []) e in
+        (t .0, t .1 .0, t .1 .1)
+
+    pub grid-whole : length grid ≡ 1080
+    grid-whole = eqb-true (length grid) 1080 (lengths .0)
+
+    pub written-whole : length written ≡ 8
+    written-whole = eqb-true (length written) 8 (lengths .1)
+
+    -- all of the eight bytes
+    eight : (x : ℕ) → take 0 written ++ longBytes x ++ drop (0 + 8) written ≡ longBytes x
+    eight x = rw (drop-of-length-le written {i = 8} (omega (arith, written-whole))) (append-nil (longBytes x))
+
+    pub told-call : (a : Answer) (x : ℕ) (textAfter writtenAfter answerAfter : List ℕ) (r : ℕ) → a ≡ reportAnswer (gridOf grid) (length text)
+        → x ≡ reportLength (gridOf grid) (length text)
+        → textAfter ≡ reportedIn (gridOf grid) text
+        → writtenAfter ≡ take 0 written ++ longBytes x ++ drop (0 + 8) written
+        → r ≡ returned a answer
+        → answerAfter ≡ replied a answer
+        → Reports r textAfter writtenAfter answerAfter
+    unfolding reportReturned reportTextLeft reportWrittenLeft reportAnswerLeft returned
+    told-call a x textAfter writtenAfter answerAfter r said long printed put told replied-to =
+        (rw e (rw (lengths .2, said) at told), (rw e printed, (rw e (put ∙ eight x ∙ ap longBytes long), rw e (rw said at replied-to))))

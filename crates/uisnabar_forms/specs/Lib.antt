@@ -1,0 +1,3 @@
+pub mod CountCall
+pub mod ReportCall
+pub mod Called
