@@ -15,7 +15,7 @@ import cli_forms
 import cli_run
 import oracle
 import shelf
-from cli_run import COMMAND, FILES, PATH, ROOT, check, could_not, run, write
+from cli_run import COMMAND, FILES, PATH, ROOT, check, could_not, run, unwritable, write
 from trials_parts import each_kind
 
 
@@ -137,14 +137,9 @@ def streams():
     given = ["judge", "--fp", str(start[1]), *FILES]
     label = ["label", str(ROOT / "shelf/seed-0.label")]
     for words in (given, given + ["--paste"], ["judge", *FILES], label, ["--version"], ["--help"]):
-        with open("/dev/full", "wb") as full:
-            could_not(f"{words} to a full disk", run(*words, stdout=full), "standard output cannot be written: No space left")
-        reading, writing = os.pipe()
-        os.close(reading)
-        could_not(f"{words} to nobody", run(*words, stdout=writing), "standard output cannot be written: Broken pipe")
-        os.close(writing)
-        with open("folder/read", "rb") as unwritable:
-            could_not(f"{words} to what is read", run(*words, stdout=unwritable), "standard output cannot be written: Bad file")
+        unwritable(words)
+        with open("folder/read", "rb") as read_alone:
+            could_not(f"{words} to what is read", run(*words, stdout=read_alone), "standard output cannot be written: Bad file")
 
 
 def closed():

@@ -10,7 +10,7 @@ import subprocess
 import cli_cases
 import oracle_forms
 import shelf
-from cli_run import COMMAND, FILES, ROOT, check, could_not, run, write
+from cli_run import COMMAND, FILES, ROOT, check, could_not, run, unwritable, write
 from oracle_forms import FORMS, FRESH, LIMIT, in_last
 from trials_parts import each_kind, each_mode
 
@@ -251,12 +251,7 @@ def unwritten():
     for grid in (None, FRESH):
         for words in (words_of(start), words_of((9, 9))):
             put(grid)
-            with open("/dev/full", "wb") as full:
-                could_not(f"{words} to a full disk", run(*words, stdout=full), "standard output cannot be written: No space left")
-            reading, writing = os.pipe()
-            os.close(reading)
-            could_not(f"{words} to nobody", run(*words, stdout=writing), "standard output cannot be written: Broken pipe")
-            os.close(writing)
+            unwritable(words)
             done = subprocess.run(["sh", "-c", 'exec "$@" >&-', "sh", *COMMAND, *words], capture_output=True, timeout=120, check=False)
             check(f"{words} to closed output", (done.returncode, left()), (2, (grid, False)))
         for most, about in ((0, "File too large"), (1079, "No space left")):
@@ -264,8 +259,7 @@ def unwritten():
             check(f"the grid in {most} bytes", left(), (grid, False))
     for grid in (FULL, in_last(1)):
         put(grid)
-        with open("/dev/full", "wb") as full:
-            could_not("a report to a full disk", run("report", "grid", stdout=full), "standard output cannot be written: No space left")
+        unwritable(("report", "grid"))
 
 
 def usage():

@@ -36,6 +36,16 @@ def could_not(name, found, about):
         faults.append(f"{name}: said {said!r}")
 
 
+def unwritable(words):
+    """Output to a full disk, and output that nobody reads."""
+    with open("/dev/full", "wb") as full:
+        could_not(f"{words} to a full disk", run(*words, stdout=full), "standard output cannot be written: No space left")
+    reading, writing = os.pipe()
+    os.close(reading)
+    could_not(f"{words} to nobody", run(*words, stdout=writing), "standard output cannot be written: Broken pipe")
+    os.close(writing)
+
+
 def write(parts):
     for name, part in zip(FILES, parts):
         pathlib.Path(name).write_bytes(part)

@@ -162,27 +162,31 @@ fn outcome(verdict: u32, answer: &[u8; ANSWER_BYTES]) -> Result<(), Refusal> {
     }
 }
 
+/// A function of the library over a program, a memory, a start and two tables, and over buffers that it writes.
+macro_rules! on_tables {
+    ($call:ident($program:ident, $memory:ident, $pc:ident, $fp:ident, $exec:ident, $ext:ident), $($written:ident),+) => {
+        $call(
+            $program.as_ptr(),
+            $program.len(),
+            $memory.as_ptr(),
+            $memory.len(),
+            $pc,
+            $fp,
+            $exec.as_ptr(),
+            $exec.len(),
+            $ext.as_ptr(),
+            $ext.len(),
+            $($written.as_mut_ptr(), $written.len()),+
+        )
+    };
+}
+
 /// Whether the tables satisfy the constraints of leanVM draft 0.6.0 from the start (pc, fp), or the first reason why
 /// not.
 pub fn judge(program: &[u8], memory: &[u8], pc: u64, fp: u64, exec: &[u8], ext: &[u8]) -> Result<(), Refusal> {
     let mut answer = [0; ANSWER_BYTES];
     // SAFETY: each pointer comes with its slice's length, and `answer`, which alone is written, is this call's own.
-    let verdict = unsafe {
-        uisnabar_judge(
-            program.as_ptr(),
-            program.len(),
-            memory.as_ptr(),
-            memory.len(),
-            pc,
-            fp,
-            exec.as_ptr(),
-            exec.len(),
-            ext.as_ptr(),
-            ext.len(),
-            answer.as_mut_ptr(),
-            answer.len(),
-        )
-    };
+    let verdict = unsafe { on_tables!(uisnabar_judge(program, memory, pc, fp, exec, ext), answer) };
     outcome(verdict, &answer)
 }
 
@@ -199,24 +203,7 @@ pub fn count(
 ) -> Result<(), Refusal> {
     let mut answer = [0; ANSWER_BYTES];
     // SAFETY: each pointer comes with its slice's length, `grid` is borrowed for this call alone and `answer` its own.
-    let verdict = unsafe {
-        uisnabar_count(
-            program.as_ptr(),
-            program.len(),
-            memory.as_ptr(),
-            memory.len(),
-            pc,
-            fp,
-            exec.as_ptr(),
-            exec.len(),
-            ext.as_ptr(),
-            ext.len(),
-            grid.as_mut_ptr(),
-            grid.len(),
-            answer.as_mut_ptr(),
-            answer.len(),
-        )
-    };
+    let verdict = unsafe { on_tables!(uisnabar_count(program, memory, pc, fp, exec, ext), grid, answer) };
     outcome(verdict, &answer)
 }
 

@@ -23,21 +23,12 @@ use Rattle.rules.specs.Bus.{instructionOf}
 use Rattle.rules.proofs.Totals.{total-zero}
 use Rattle.judge_spec.specs.Judged.{judgeOf}
 use Rattle.judge_spec.proofs.Exactly.{accepted-satisfies}
-use Rattle.grid_spec.specs.Forms.{kindNumber, modeNumber, counter, counterOf, counterAt, rowsOf}
-use Rattle.grid_spec.proofs.Counts.{mode-few, pc-in-program}
+use Rattle.grid_spec.specs.Forms.{kindNumber, counter, counterOf, counterAt, rowsOf}
+use Rattle.grid_spec.proofs.Counts.{pc-in-program}
+use Rattle.grid_spec.proofs.OneForm.{form-numbers, mode-back}
 use Rattle.grid_spec.specs.Possible.{isCell, isFrame, plain, possible, kindAt, modeAt, possibleAt}
 
--- a counter's four numbers
-digits : (kind a b c : ℕ) → a ≤ 2 → b ≤ 2 → c ≤ 2
-    → (let k = 27 * kind + 9 * a + 3 * b + c in (k / 27 ≡ kind) × (k / 9 % 3 ≡ a) × (k / 3 % 3 ≡ b) × (k % 3 ≡ c))
-digits kind a b c ha hb hc = omega arith
-
--- a mode is that of its number, and so is a kind, as far as its forms go
-mode-back : (m : Mode) → modeAt (modeNumber m) ≡ m
-mode-back Immediate = refl
-mode-back Cell = refl
-mode-back Frame = refl
-
+-- a kind is that of its number, as far as its forms go
 kind-back : (kind : Kind) (a b c : Mode) → possible (kindAt (kindNumber kind)) a b c ≡ possible kind a b c
 kind-back Add a b c = refl
 kind-back Mul a b c = refl
@@ -48,8 +39,7 @@ kind-back (Extension op be n) a b c = refl
 -- a form's counter is possible where the form is
 pub possible-counter : (kind : Kind) (a b c : Mode) → possibleAt (counter kind a b c) ≡ possible kind a b c
 possible-counter kind a b c =
-    let (first, second, third, last) =
-    digits (kindNumber kind) (modeNumber a) (modeNumber b) (modeNumber c) (mode-few a) (mode-few b) (mode-few c) in
+    let (first, second, third, last) = form-numbers kind a b c in
     rw (first, second, third, last, mode-back a, mode-back b, mode-back c) (kind-back kind a b c)
 
 -- an operand with no fp flag is plain, and one with no immediate's flag is no immediate

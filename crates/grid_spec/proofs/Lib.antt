@@ -1,5 +1,6 @@
 pub mod Listed
 pub mod Counts
+pub mod OneForm
 pub mod Tables
 pub mod Campaign
 pub mod Order
