@@ -1,4 +1,5 @@
-/* What the files of the command share. Every judgement is the library's: nothing here tests a rule. */
+/* What the files of the command share. Every judgement is the library's: nothing here tests a rule. (edition.c says why
+ * an instruction was refused, once the library has refused it.) */
 #ifndef CLI_H
 #define CLI_H
 
@@ -14,8 +15,8 @@
 /* exit statuses; FAILED is usage, or something that cannot be read or written */
 enum { ACCEPTED = 0, REFUSED = 1, FAILED = 2 };
 
-/* the parts as an answer numbers them */
-enum { PROGRAM = 1, MEMORY, EXEC, EXT, PARTS };
+/* the parts as an answer numbers them; OLD, a program of draft 0.5.0, is part 1 there, and has a layout of its own */
+enum { PROGRAM = 1, MEMORY, EXEC, EXT, PARTS, OLD = PARTS, LAYOUTS };
 
 struct bytes {
     const uint8_t *at;
@@ -23,7 +24,7 @@ struct bytes {
 };
 
 struct given {
-    struct bytes part[PARTS];
+    struct bytes part[LAYOUTS];
     uint64_t pc, fp;
 };
 
@@ -39,6 +40,7 @@ int written(void);
 int judge(int count, char **words);
 int count_forms(int count, char **words);
 int report_forms(int count, char **words);
+int translate(int count, char **words);
 int label(int count, char **words);
 
 /* tables.c: a subcommand's words, and the tables in the files that they name; 0, or FAILED with the sentence said */
@@ -54,24 +56,33 @@ struct request {
 int take_tables(int count, char **words, struct request *request);
 
 /* files.c: 0, or FAILED with the sentence said */
-#define LOST "a file became shorter, or could not be read, while it was judged"
+#define LOST "a file became shorter, or could not be read to its end"
 int map_file(const char *path, struct bytes *file);
 int read_text(const char *path, uint8_t *text, size_t room, size_t *len);
 
-/* grid.c: a grid in a file, and what is to replace it, which no two counts have at once */
+/* replace.c: what is to replace a file, which no two commands have at once */
+#define QUIETLY (O_NONBLOCK | O_NOCTTY | O_CLOEXEC) /* a pipe must not keep it waiting */
+struct stat;
+struct next {
+    const char *path, *what, *doing; /* the file, what it is, and how the name of what replaces it ends */
+    char name[4096];                 /* that name, in the same folder */
+    int file;                        /* what replaces it, open and locked */
+    int old;                         /* the file itself, open; below 0 where there is none */
+    unsigned mode;                   /* its permissions */
+};
+int regular(const char *path, const char *what, int file, struct stat *is);
+int take_next(struct next *next);
+/* either of these two ends it. The answer is written before the file is replaced: where it cannot be, the file stays */
+int replace(const struct next *next, struct bytes bytes, struct answer answer);
+void leave_next(const struct next *next);
+
+/* grid.c: a grid in a file */
 struct grid {
-    const char *path;
-    char next[4096]; /* the name of what replaces it, in the same folder */
-    int file;        /* that file, open and locked */
-    bool fresh;      /* there was no grid */
-    unsigned mode;   /* else its permissions */
+    struct next next;
     uint8_t bytes[UISNABAR_GRID_BYTES];
 };
 int read_grid(const char *path, uint8_t bytes[UISNABAR_GRID_BYTES]);
 int take_grid(const char *path, struct grid *grid);
-int prepare_grid(struct grid *grid); /* writes the bytes to what replaces the grid */
-int replace_grid(struct grid *grid); /* either of these two ends it */
-void leave_grid(struct grid *grid);
 
 /* forms.c: what a grid's counters stand for */
 #define TOTAL_MOST ((UINT64_C(1) << 63) - 1)
@@ -86,13 +97,13 @@ void print_missing(FILE *out, const uint8_t grid[UISNABAR_GRID_BYTES]);
 enum { SUM_DIGITS = 64 };
 int sum_of(struct bytes bytes, char digits[SUM_DIGITS + 1]);
 
-/* layout.c: the rows and columns of document 01, "Layouts" */
+/* layout.c: the rows and columns of document 01, "Layouts", and of draft 0.5.0, 3.1.3 */
 struct layout {
     const char *part, *row; /* what the part and a row of it are called */
     unsigned words;         /* words in a row */
     const char *lengths;    /* the lengths that it may have */
 };
-extern const struct layout layouts[PARTS];
+extern const struct layout layouts[LAYOUTS];
 uint32_t word_at(const uint8_t *at);
 uint32_t word_of(struct bytes part, size_t place);
 size_t rows_of(const struct given *given, uint32_t part);
@@ -110,6 +121,9 @@ void count_sentence(FILE *out, const struct given *given, struct answer answer,
                     const uint8_t grid[UISNABAR_GRID_BYTES]);
 void report_sentence(FILE *out, const uint8_t grid[UISNABAR_GRID_BYTES]);
 void label_sentence(FILE *out, struct bytes text, struct answer answer, const uint8_t *recipe);
+
+/* edition.c: the same of a translation; where an instruction is refused, its words on a line more */
+void translate_sentence(FILE *out, const struct given *given, struct answer answer);
 
 /* paste.c: the text to send in a dispute */
 void print_paste(FILE *out, const struct given *given, struct answer answer, char sums[PARTS][SUM_DIGITS + 1]);

@@ -11,19 +11,13 @@ static struct answer ask(const struct given *given, uint8_t grid[UISNABAR_GRID_B
     return answer_of(verdict, bytes);
 }
 
-/* the answer is written before the grid is replaced: where it cannot be, nothing is counted, and one may ask again */
-static int give(struct answer answer, struct grid *grid)
+static int give(struct answer answer, const struct grid *grid)
 {
-    bool counted = answer.verdict == UISNABAR_ACCEPTED;
-    int status = counted ? prepare_grid(grid) : 0;
-    if (status == 0) {
-        print_lines(answer);
-        status = written();
-    }
-    if (status == 0 && counted)
-        return replace_grid(grid);
-    leave_grid(grid);
-    return status;
+    if (answer.verdict == UISNABAR_ACCEPTED)
+        return replace(&grid->next, (struct bytes){grid->bytes, sizeof grid->bytes}, answer);
+    print_lines(answer);
+    leave_next(&grid->next);
+    return written();
 }
 
 int count_forms(int count, char **words)

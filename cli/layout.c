@@ -1,11 +1,12 @@
-/* Document 01, "Layouts": what the parts, their rows and their columns are called. */
+/* Document 01, "Layouts", and draft 0.5.0, 3.1.3: what the parts, their rows and their columns are called. */
 #include "cli.h"
 
-const struct layout layouts[PARTS] = {
+const struct layout layouts[LAYOUTS] = {
     [PROGRAM] = {"program", "instruction", 12, "1 to 1048576 instructions of 48 bytes"},
     [MEMORY] = {"memory", "memory cell", 1, "2^m words of 4 bytes, m from 8 to 29"},
     [EXEC] = {"execution table", "execution row", 8, "H rows of 32 bytes, H a power of two from 2^8 to 2^25"},
     [EXT] = {"extension table", "extension row", 30, "K rows of 120 bytes, K a power of two from 2^8 to 2^20"},
+    [OLD] = {"program of draft 0.5.0", "instruction", 14, "1 to 1048576 instructions of 56 bytes"},
 };
 
 /* columns in order; an element is five words */
@@ -20,7 +21,11 @@ static const struct column exec[] = {{"pc", 1},     {"fp", 1},      {"addr A", 1
                                      {"addr C", 1}, {"value A", 1}, {"value B", 1}, {"value C", 1}};
 static const struct column ext[] = {{"start", 1}, {"add", 1},  {"mul", 1},  {"peq", 1}, {"len", 1}, {"idxA", 1}, {"idxB", 1}, {"idxR", 1},
                                     {"be", 1},    {"vA base", 1}, {"vA", 5}, {"vB", 5},  {"comp", 5}, {"res", 5}};
-static const struct column *const columns[PARTS] = {[PROGRAM] = instruction, [MEMORY] = cell, [EXEC] = exec, [EXT] = ext};
+static const struct column old[] = {{"operand A", 1}, {"operand B", 1}, {"operand C", 1}, {"flag A", 1}, {"flag B", 1},
+                                    {"flag C", 1},    {"ADD", 1},       {"MUL", 1},       {"DEREF", 1},  {"JUMP", 1},
+                                    {"IS_PRECOMPILE", 1}, {"PRECOMPILE_INDEX", 1}, {"AUX_1", 1}, {"AUX_2", 1}};
+static const struct column *const columns[LAYOUTS] = {
+    [PROGRAM] = instruction, [MEMORY] = cell, [EXEC] = exec, [EXT] = ext, [OLD] = old};
 
 uint32_t word_at(const uint8_t *at)
 {

@@ -16,6 +16,7 @@ static const char help[] =
     "       uisnabar count GRID [--pc N] [--fp N] PROGRAM MEMORY EXEC EXT\n"
     "       uisnabar count GRID [--pc N] [--fp N] TABLES\n"
     "       uisnabar report GRID\n"
+    "       uisnabar translate OLD NEW\n"
     "       uisnabar label [FILE]\n"
     "       uisnabar --version | --help\n"
     "\n"
@@ -30,18 +31,23 @@ static const char help[] =
     "        grid wait for one another, and .GRID.counting stands beside it meanwhile; the next takes over a killed one's.\n"
     "report  The counters of GRID that are not 0, a line each, as add.cell.imm.fp=12: kind, and mode of A, B and C. On\n"
     "        standard error how many of the 50 possible forms were reached, and a line for each that was not.\n"
+    "translate\n"
+    "        OLD is a program of draft 0.5.0, 14 words an instruction in the order of its 3.1.3. NEW becomes that program in\n"
+    "        the form of draft 0.6.0, a PROGRAM for judge: from every state the two take the same step, or are stuck alike. NEW\n"
+    "        is replaced whole, and only with status 0; it may be OLD. An instruction that is not translatable is printed, with\n"
+    "        the reasons.\n"
     "label   Is the text a label? Without FILE it is read from standard input.\n"
     "\n"
     "Standard output has the answer's lines, as the replay program prints them, or the report; standard error one sentence\n"
-    "that says what they mean. Tables are mapped, not copied: they must not change while they are judged. A file that becomes\n"
-    "shorter is noticed.\n"
+    "that says what they mean. Tables and OLD are mapped, not copied: they must not change while they are read. A file that\n"
+    "becomes shorter is noticed.\n"
     "Exit status: 0 accepted, 1 refused, 2 usage, or something could not be read or written.\n";
 
 /* the subcommands by name */
 static const struct {
     const char *name;
     int (*run)(int count, char **words);
-} commands[] = {{"judge", judge}, {"count", count_forms}, {"report", report_forms}, {"label", label}};
+} commands[] = {{"judge", judge}, {"count", count_forms}, {"report", report_forms}, {"translate", translate}, {"label", label}};
 enum { COMMANDS = sizeof commands / sizeof commands[0] };
 
 int failed(const char *format, ...)

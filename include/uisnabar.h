@@ -1,5 +1,5 @@
-/* Uisnabar's C library: the judge of leanVM tables, counts of the instruction forms that they reach, and the reader of
- * labels.
+/* Uisnabar's C library: the judge of leanVM tables, counts of the instruction forms that they reach, programs from
+ * draft 0.5.0, and the reader of labels.
  *
  * Link with libuisnabar.a, as `./bench lib` builds it (x86-64, System V calls); where it is installed, pkg-config
  * knows it as uisnabar. Every function returns; they keep nothing between calls and use no heap; they may be called
@@ -22,7 +22,7 @@
 #include <stdint.h>
 
 /* The version of this header and of the library it was made for. */
-#define UISNABAR_VERSION "1.1.0"
+#define UISNABAR_VERSION "1.2.0"
 /* The length of `answer`, and of `recipe`. Later versions may ask for more: use these names, and no number. */
 #define UISNABAR_ANSWER_BYTES 16
 #define UISNABAR_RECIPE_BYTES 16
@@ -55,7 +55,8 @@ enum uisnabar_verdict {
     UISNABAR_OPEN = 11,
     UISNABAR_SELF = 12,
     UISNABAR_ANSWER = 13,     /* a buffer of fixed length is of another; nothing is written */
-    UISNABAR_GRID = 14        /* the counters' total would pass 2^63 - 1 */
+    UISNABAR_GRID = 14,       /* the counters' total would pass 2^63 - 1 */
+    UISNABAR_EDITION = 15     /* place: the first instruction of draft 0.5.0 that is not translatable */
 };
 
 /* A verdict's name. */
@@ -77,6 +78,7 @@ static inline const char *uisnabar_name(uint32_t verdict)
     case UISNABAR_SELF: return "SELF";
     case UISNABAR_ANSWER: return "ANSWER";
     case UISNABAR_GRID: return "GRID";
+    case UISNABAR_EDITION: return "EDITION";
     }
     return "unknown";
 }
@@ -131,6 +133,27 @@ uint32_t uisnabar_count(const uint8_t *program, size_t program_len, const uint8_
  */
 uint32_t uisnabar_report(const uint8_t *grid, size_t grid_len, uint8_t *text, size_t text_len,
                          uint8_t *written, size_t written_len, uint8_t *answer, size_t answer_len);
+
+/* A program encoded by draft 0.5.0, translated into the form of draft 0.6.0. Over every memory and from every state
+ * with fp below p the two take the same step or are stuck for the same reason; every instruction written is
+ * well-formed. Memory and start stay as they are; tables of draft 0.5.0 do not become tables of 0.6.0.
+ *
+ * The old program is read as document 02 reads that draft: a JUMP's destination from B and its frame from C (2.4.3, and
+ * not the constraints of 3.1.4), fp kept on an untaken jump, AUX_1 for AUX. A program that was built on another reading
+ * is accepted too, and means something else.
+ *
+ *   old      1 to 2^20 instructions of 56 bytes, words in the order of draft 0.5.0, 3.1.3: operands A, B, C; flags A,
+ *            B, C; ADD, MUL, DEREF, JUMP, IS_PRECOMPILE, PRECOMPILE_INDEX; AUX_1, AUX_2
+ *   program  exactly 48 bytes for each instruction of old, in a buffer of its own; written on ACCEPTED alone, else as
+ *            it was; it may hold anything
+ *   answer   UISNABAR_ANSWER_BYTES, written on every verdict but ANSWER
+ *
+ * Returns ACCEPTED; SIZE part 1 where either length is bad; WORD part 1, place counted in words of old, 14 to an
+ * instruction; EDITION, place: the first instruction that is not translatable (docs/VERDICTS.md has the reasons); or
+ * ANSWER where answer_len is another; nothing is written then. Tests run in number order, ANSWER first.
+ */
+uint32_t uisnabar_translate(const uint8_t *old, size_t old_len, uint8_t *program, size_t program_len,
+                            uint8_t *answer, size_t answer_len);
 
 /* The label reader.
  *

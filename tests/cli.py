@@ -1,7 +1,7 @@
 """The command `uisnabar`, run: `python3 tests/cli.py target/cli/uisnabar`, or an emulator's words before it.
 
 Answers are computed by tests/oracle.py, sentences taken from docs/VERDICTS.md, sums from Python's own SHA-256. It works
-in a folder of its own. Counts and reports are in tests/cli_forms.py."""
+in a folder of its own. Counts and reports are in tests/cli_forms.py, translations in tests/cli_translate.py."""
 import os
 import pathlib
 import re
@@ -13,6 +13,7 @@ sys.dont_write_bytecode = True
 import cli_cases
 import cli_forms
 import cli_run
+import cli_translate
 import oracle
 import shelf
 from cli_run import COMMAND, FILES, PATH, ROOT, check, could_not, run, unwritable, write
@@ -95,7 +96,7 @@ def numbers():
 def usage():
     status, out, said = run()
     check("no word", (status, out, said.startswith("usage: uisnabar judge")), (2, b"", True))
-    for words in (("--help",), *((name, "--help") for name in ("judge", "count", "report", "label"))):
+    for words in (("--help",), *((name, "--help") for name in ("judge", "count", "report", "translate", "label"))):
         check(f"{words}", run(*words), (0, said.encode(), ""))
     for words in (("judged",), ("--help", "more"), ("--version", "more"), ("",), ("-v",)):
         check(f"{words}", run(*words), (2, b"", said))
@@ -193,7 +194,8 @@ def main():
         os.chdir(folder)
         os.mkdir("folder")
         pathlib.Path("folder/read").write_bytes(b"")
-        for group in (judged, tables, labels, numbers, usage, files, streams, closed, sums, pages, *cli_forms.GROUPS):
+        for group in (judged, tables, labels, numbers, usage, files, streams, closed, sums, pages, *cli_forms.GROUPS,
+                      *cli_translate.GROUPS):
             group()
         os.chdir(ROOT)
     print("\n".join(cli_run.faults + [f"{cli_run.tried} tried, {len(cli_run.faults)} faults"]))

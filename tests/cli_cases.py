@@ -7,11 +7,13 @@ import cli_page
 import oracle
 import trials_input
 import trials_judge
+import trials_parts
 import trials_rules
-from trials_parts import EXEC, EXT, MEMORY, PROGRAM, WORDS, each_kind
+from trials_parts import EXEC, EXT, MEMORY, PROGRAM, each_kind
 
 NAMES = "ACCEPTED SIZE WORD INSTRUCTION START EXEC EXTENSION BUS LABEL".split()
-ROW = (None, "instruction", "memory cell", "execution row", "extension row")
+ROW = (None, "instruction", "memory cell", "execution row", "extension row", "instruction")
+WORDS = (*trials_parts.WORDS, 14)  # the fifth layout is draft 0.5.0's, of tests/cli_translate.py
 LAYOUTS = cli_page.table("Layouts")
 RULES = {EXEC: cli_page.rules("Execution rules"), EXT: cli_page.rules("Extension rules")}
 ELEMENTS = {EXT: 10}  # the column from which a row has elements of five words

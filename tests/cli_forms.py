@@ -2,7 +2,6 @@
 import fcntl
 import os
 import pathlib
-import resource
 import shutil
 import stat
 import subprocess
@@ -10,7 +9,7 @@ import subprocess
 import cli_cases
 import oracle_forms
 import shelf
-from cli_run import COMMAND, FILES, ROOT, check, could_not, run, unwritable, write
+from cli_run import COMMAND, FILES, ROOT, as_nobody, check, could_not, limited, run, unwritable, write
 from oracle_forms import FORMS, FRESH, LIMIT, in_last
 from trials_parts import each_kind, each_mode
 
@@ -175,9 +174,7 @@ def permissions():
     check("a grid's permissions", (run(*words_of(start))[0], stat.S_IMODE(GRID.stat().st_mode)), (0, 0o640))
     put(None)
     check("a fresh grid's permissions", (run(*words_of(start), umask=0o027)[0], stat.S_IMODE(GRID.stat().st_mode)), (0, 0o640))
-    shutil.copy(COMMAND[-1], "command")
-    how = {"command": [*COMMAND[:-1], "./command"], **({"user": 65534} if os.geteuid() == 0 else {})}
-    os.chmod(".", 0o777)
+    how = as_nobody()
     for mode, about, reported in ((0o000, "grid: Permission denied", 2), (0o444, "grid: Permission denied", 0)):
         put(FRESH)
         GRID.chmod(mode)
@@ -237,11 +234,6 @@ def waits():
         check(f"waited, {name}", (held(meanwhile), sum(left()[0])), (wanted, total))
     write(each_kind()[0])
     check("after tables that became shorter", (run(*words_of(each_kind()[1]))[0], sum(left()[0]), left()[1]), (0, 257, False))
-
-
-def limited(most):
-    """For a process whose files may have so many bytes; a longer write is an error, and no signal."""
-    return {"preexec_fn": lambda: resource.setrlimit(resource.RLIMIT_FSIZE, (most, most)), "restore_signals": False}
 
 
 def unwritten():

@@ -218,7 +218,7 @@ def named_definitions():
         path = ROOT / file
         text = path.read_text() + ((SPECS / "Given.antt").read_text() if path.parent == SPECS else "")
         for name in re.findall(r"`([^`]+)`", named):
-            defined = re.search(rf"^ *(?:abbrev |unfoldable )?pub (?:record )?{re.escape(name)} [:(]", text, re.M)
+            defined = re.search(rf"^ *(?:abbrev |unfoldable )?pub (?:record |data )?{re.escape(name)} [:(]", text, re.M)
             if not defined and not name.startswith("rule "):
                 yield f"{file} has no {name}"
 

@@ -1,7 +1,9 @@
-"""The command `uisnabar`, as tests/cli.py and tests/cli_forms.py run it, and what was found."""
+"""The command `uisnabar`, as tests/cli.py, tests/cli_forms.py and tests/cli_translate.py run it, and what was found."""
 import os
 import pathlib
 import re
+import resource
+import shutil
 import subprocess
 import sys
 
@@ -44,6 +46,18 @@ def unwritable(words):
     os.close(reading)
     could_not(f"{words} to nobody", run(*words, stdout=writing), "standard output cannot be written: Broken pipe")
     os.close(writing)
+
+
+def limited(most, what=resource.RLIMIT_FSIZE):
+    """For a process whose files may have so many bytes, or its memory; a longer write is an error, and no signal."""
+    return {"preexec_fn": lambda: resource.setrlimit(what, (most, most)), "restore_signals": False}
+
+
+def as_nobody():
+    """For a process without root's rights: a copy of the command that it may run; this folder becomes one for all."""
+    shutil.copy(COMMAND[-1], "command")
+    os.chmod(".", 0o777)
+    return {"command": [*COMMAND[:-1], "./command"], **({"user": 65534} if os.geteuid() == 0 else {})}
 
 
 def write(parts):

@@ -114,6 +114,11 @@ cli_test() {
     cli && python3 tests/cli.py "${emulator[@]}" target/cli/uisnabar
 }
 
+# editions: programs of draft 0.5.0 that are written out with their translations and runs, through the library
+editions() {
+    against editions && python3 tests/editions.py cases | emulated target/c/editions | python3 tests/editions.py compare
+}
+
 page_checks() {
     stage "layout, contracts, pages"
     check "layout (rt fmt --check)" rt fmt --check
@@ -150,6 +155,7 @@ run_checks() {
     fi
     check "what customers hold" ./bench customers
     check "the command uisnabar, on every verdict and rule" cli_test
+    check "programs of draft 0.5.0: words, refusals and runs as written by hand" editions
     check "library and second implementation agree" differ 1 40000
     check "the same at the end of a page, on a small stack" differ --page 2 4000
     check "the same on large tables, in rounds and windows, accepted and refused" differ --large

@@ -3,7 +3,8 @@
 Sources: document 01 ("01, <heading>") and draft 0.6.0 ("0.6.0, <section>"), with the founders' decided points where they
 leave a choice. It shares nothing with the bench it is compared with, and is plain rather than fast.
 An answer is (verdict, part, place, rule). Words are Python integers below P, elements are 5-tuples of words.
-Form counts are in oracle_forms.py. Run as a program it checks itself, and them.
+Form counts are in oracle_forms.py, programs of draft 0.5.0 in oracle_editions.py. Run as a program it checks itself,
+and them.
 """
 
 import struct
@@ -12,7 +13,7 @@ from collections import Counter
 
 P = 2**31 - 2**24 + 1
 NAMES = ("ACCEPTED", "SIZE", "WORD", "INSTRUCTION", "START", "EXEC", "EXTENSION", "BUS",
-         "LABEL", "STUCK", "ROOM", "OPEN", "SELF", "ANSWER", "GRID")
+         "LABEL", "STUCK", "ROOM", "OPEN", "SELF", "ANSWER", "GRID", "EDITION")
 ONE = (1, 0, 0, 0, 0)
 ADD, MUL, PEQ = 4, 8, 16
 
@@ -443,8 +444,10 @@ def self_check():
     return passed, failed
 
 if __name__ == "__main__":
-    import oracle_forms  # here, as it imports this file
+    import oracle_editions  # here, as the two import this file
+    import oracle_forms
 
-    PASSED, FAILED = (own + more for own, more in zip(self_check(), oracle_forms.self_check()))
+    CHECKED = self_check(), oracle_forms.self_check(), oracle_editions.self_check()
+    PASSED, FAILED = ([line for part in parts for line in part] for parts in zip(*CHECKED))
     print("\n".join(FAILED) or "oracle: %d checks passed" % len(PASSED))
     sys.exit(bool(FAILED))

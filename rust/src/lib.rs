@@ -1,5 +1,5 @@
-//! The proved judge of leanVM tables, counts of the instruction forms that they reach, and the reader of labels, from
-//! libuisnabar.a, without `unsafe` for the caller.
+//! The proved judge of leanVM tables, counts of the instruction forms that they reach, programs from draft 0.5.0, and
+//! the reader of labels, from libuisnabar.a, without `unsafe` for the caller.
 //!
 //! include/uisnabar.h documents each function, docs/VERDICTS.md every answer. A call of the library keeps nothing, uses
 //! no heap and at most [`STACK_BYTES`] of stack, [`count`] at most [`COUNT_STACK_BYTES`], and may be made from several
@@ -11,6 +11,7 @@
 //! assert_eq!(refusal.to_string(), "SIZE part 1 place 0 rule 0");
 //! assert_eq!(uisnabar::count(&[], &[], 0, 0, &[], &[], &mut grid), Err(refusal));
 //! assert_eq!(uisnabar::report(&grid).unwrap(), "");
+//! assert_eq!(uisnabar::translate(&[0; 56]).unwrap_err().to_string(), "EDITION part 0 place 0 rule 0");
 //! let recipe = uisnabar::read_label(b"v=1\nseed=000000012fffffff\nm=10\nn=12\n").unwrap();
 //! assert_eq!((recipe.seed, recipe.m, recipe.n), (0x1_2fff_ffff, 10, 12));
 //! ```
@@ -32,9 +33,13 @@ pub const REPORT_BYTES: usize = 5076;
 const ANSWER_BYTES: usize = 16;
 const RECIPE_BYTES: usize = 16;
 const WRITTEN_BYTES: usize = 8;
+// An instruction of draft 0.5.0 and of draft 0.6.0, and how many a program may have.
+const OLD_INSTRUCTION: usize = 56;
+const INSTRUCTION: usize = 48;
+const MOST_INSTRUCTIONS: usize = 1 << 20;
 
 /// The verdicts by number.
-pub const NAMES: [&str; 15] = [
+pub const NAMES: [&str; 16] = [
     "ACCEPTED",
     "SIZE",
     "WORD",
@@ -50,6 +55,7 @@ pub const NAMES: [&str; 15] = [
     "SELF",
     "ANSWER",
     "GRID",
+    "EDITION",
 ];
 const ACCEPTED: u32 = 0;
 const ANSWER: u32 = 13;
@@ -96,6 +102,14 @@ extern "C" {
         answer: *mut u8,
         answer_len: usize,
     ) -> u32;
+    fn uisnabar_translate(
+        old: *const u8,
+        old_len: usize,
+        program: *mut u8,
+        program_len: usize,
+        answer: *mut u8,
+        answer_len: usize,
+    ) -> u32;
     fn uisnabar_label(
         text: *const u8,
         text_len: usize,
@@ -106,7 +120,7 @@ extern "C" {
     ) -> u32;
 }
 
-/// Why tables or a label were refused: the four numbers of docs/VERDICTS.md. The verdict is never 0.
+/// Why tables, a program or a label were refused: the four numbers of docs/VERDICTS.md. The verdict is never 0.
 #[derive(Clone, Copy, Debug, PartialEq, Eq, Hash)]
 pub struct Refusal {
     pub verdict: u32,
@@ -226,6 +240,28 @@ pub fn report(grid: &Grid) -> Result<String, Refusal> {
     outcome(verdict, &answer)?;
     text.truncate(number(&written[..4]) as usize);
     Ok(String::from_utf8_lossy(&text).into_owned())
+}
+
+/// A program of draft 0.5.0, 56 bytes an instruction, in the form of draft 0.6.0, which [`judge`] takes; how that draft
+/// is read where it contradicts itself: include/uisnabar.h. SIZE or WORD of part 1, or EDITION and the first instruction
+/// that is not translatable.
+pub fn translate(old: &[u8]) -> Result<Vec<u8>, Refusal> {
+    // no length of `old` that is refused asks for more than the longest program
+    let instructions = (old.len() / OLD_INSTRUCTION).min(MOST_INSTRUCTIONS);
+    let (mut answer, mut program) = ([0; ANSWER_BYTES], vec![0; instructions * INSTRUCTION]);
+    // SAFETY: each pointer comes with its slice's length, and the two buffers that are written are this call's own.
+    let verdict = unsafe {
+        uisnabar_translate(
+            old.as_ptr(),
+            old.len(),
+            program.as_mut_ptr(),
+            program.len(),
+            answer.as_mut_ptr(),
+            answer.len(),
+        )
+    };
+    outcome(verdict, &answer)?;
+    Ok(program)
 }
 
 /// The recipe that a label stands for, or LABEL and how long a prefix it shares with a valid one.

@@ -1,6 +1,7 @@
 /* Which lengths the library takes of each buffer that has one length, and the header's names and figures, each on a
  * line. */
 #include <stdio.h>
+#include <stdlib.h>
 #include <string.h>
 
 #include "uisnabar.h"
@@ -8,8 +9,10 @@
 enum { MOST = 1200, UNTOUCHED = 0xa5 };
 
 static const char text[] = "v=1\nseed=000000012fffffff\nm=10\nn=12\n";
+/* an instruction of draft 0.5.0 and of draft 0.6.0: an ADD of cells 1 and 3 that gives cell 2 */
+static const uint8_t old[56] = {[0] = 1, [4] = 2, [8] = 3, [24] = 1}, program[48] = {[0] = 1, [4] = 2, [8] = 3, [40] = 1};
 static struct {
-    uint8_t answer[MOST], recipe[MOST], grid[MOST], written[MOST];
+    uint8_t answer[MOST], recipe[MOST], grid[MOST], written[MOST], program[MOST];
 } lent;
 
 /* Calls in which one buffer has the length and the others have theirs. */
@@ -43,6 +46,11 @@ static uint32_t report_answer(size_t len)
     return uisnabar_report(lent.grid, UISNABAR_GRID_BYTES, NULL, 0, lent.written, UISNABAR_WRITTEN_BYTES, lent.answer, len);
 }
 
+static uint32_t translate_answer(size_t len)
+{
+    return uisnabar_translate(old, sizeof old, lent.program, sizeof program, lent.answer, len);
+}
+
 static uint32_t label_answer(size_t len)
 {
     return uisnabar_label((const uint8_t *)text, sizeof text - 1, lent.answer, len, lent.recipe, UISNABAR_RECIPE_BYTES);
@@ -53,11 +61,11 @@ static uint32_t label_recipe(size_t len)
     return uisnabar_label((const uint8_t *)text, sizeof text - 1, lent.answer, UISNABAR_ANSWER_BYTES, lent.recipe, len);
 }
 
-/* Whether every buffer holds its first bytes still. */
-static int untouched(void)
+/* Whether so many bytes hold still what they held first. */
+static int untouched(const void *from, size_t len)
 {
-    const uint8_t *bytes = (const uint8_t *)&lent;
-    for (size_t i = 0; i < sizeof lent; i++)
+    const uint8_t *bytes = from;
+    for (size_t i = 0; i < len; i++)
         if (bytes[i] != UNTOUCHED)
             return 0;
     return 1;
@@ -71,9 +79,48 @@ static void lengths(const char *name, uint32_t (*call)(size_t len))
         uint32_t verdict = call(len);
         if (verdict != UISNABAR_ANSWER)
             printf("length %s %zu %s\n", name, len, uisnabar_name(verdict));
-        else if (!untouched())
+        else if (!untouched(&lent, sizeof lent))
             printf("length %s %zu written on ANSWER\n", name, len);
     }
+}
+
+/* An old program into a new one's buffer of each length: those that are no SIZE, and what is written where it may not be. */
+static void rooms(const char *name, const uint8_t *from, size_t from_len)
+{
+    for (size_t len = 0; len <= MOST; len++) {
+        memset(&lent, UNTOUCHED, sizeof lent);
+        uint32_t verdict = uisnabar_translate(from, from_len, lent.program, len, lent.answer, UISNABAR_ANSWER_BYTES);
+        if (verdict != UISNABAR_SIZE)
+            printf("room %s %zu %s place %d\n", name, len, uisnabar_name(verdict), lent.answer[8]);
+        size_t kept = verdict == UISNABAR_ACCEPTED ? sizeof program : 0;
+        if (memcmp(lent.program, program, kept) != 0 || !untouched(lent.program + kept, MOST - kept))
+            printf("room %s %zu other bytes written\n", name, len);
+    }
+}
+
+/* No instruction, one, and as many as there may be and one more, with a buffer that fits each; all words are 0. */
+static void most(void)
+{
+    static const size_t counts[] = {0, 1, 1 << 20, (1 << 20) + 1};
+    for (int i = 0; i < 4; i++) {
+        uint8_t *from = calloc(counts[i] + 1, sizeof old), *to = calloc(counts[i] + 1, sizeof program);
+        uint32_t verdict = from && to ? uisnabar_translate(from, counts[i] * sizeof old, to, counts[i] * sizeof program, lent.answer,
+                                                           UISNABAR_ANSWER_BYTES)
+                                      : UISNABAR_ANSWER;
+        printf("instructions %zu %s part %d\n", counts[i], uisnabar_name(verdict), lent.answer[4]);
+        free(from), free(to);
+    }
+}
+
+static void translations(void)
+{
+    uint8_t three[3 * sizeof old] = {0}; /* the second is not translatable */
+    memcpy(three, old, sizeof old);
+    memcpy(three + 2 * sizeof old, old, sizeof old);
+    rooms("one", old, sizeof old);
+    rooms("three", three, sizeof three);
+    rooms("cut", three, sizeof three - 1);
+    most();
 }
 
 /* What the longest report needs, and whether a buffer of so many bytes is taken and one of a byte less is not. */
@@ -97,9 +144,11 @@ int main(void)
     lengths("report's grid", report_grid);
     lengths("report's written", report_written);
     lengths("report's answer", report_answer);
+    lengths("translate's answer", translate_answer);
     lengths("label's answer", label_answer);
     lengths("label's recipe", label_recipe);
     longest();
+    translations();
     for (uint32_t verdict = 0; strcmp(uisnabar_name(verdict), "unknown") != 0; verdict++)
         printf("verdict %u %s\n", (unsigned)verdict, uisnabar_name(verdict));
     printf("answer %d\nrecipe %d\ngrid %d\nwritten %d\nreport %d\n", UISNABAR_ANSWER_BYTES, UISNABAR_RECIPE_BYTES, UISNABAR_GRID_BYTES,

@@ -16,10 +16,14 @@ lengths() {
     for name in grid written answer; do
         echo "length report's $name $(figure "$name") SIZE"
     done
+    echo "length translate's answer $(figure answer) ACCEPTED"
     echo "length label's answer $(figure answer) ACCEPTED"
     echo "length label's recipe $(figure recipe) ACCEPTED"
     echo "longest ACCEPTED written $(figure report) place 0"
     echo "longest SIZE written 0 place $(figure report)"
+    echo "room one 48 ACCEPTED place 0"
+    echo "room three 144 EDITION place 1"
+    printf 'instructions %d %s part %d\n' 0 SIZE 1 1 EDITION 0 1048576 EDITION 0 1048577 SIZE 1
 }
 
 # the header's figures are the code's, and every other place that states one agrees
@@ -27,7 +31,7 @@ figures() {
     local file name number
     compile "$work/figures-program" -Iinclude tests/customers/figures.c target/staticlib/libuisnabar.a &&
         emulated "$work/figures-program" >"$work/figures" || fault "the program that reads the header's figures failed"
-    equal "lengths that the library takes" "$(grep '^length\|^longest' "$work/figures")" "$(lengths)"
+    equal "lengths that the library takes" "$(grep '^length\|^longest\|^room\|^instructions' "$work/figures")" "$(lengths)"
     for number in "${!verdicts[@]}"; do
         echo "verdict $number ${verdicts[number]}"
     done | cmp -s - <(grep ^verdict "$work/figures") || fault "the header has other verdicts than tools/answers.sh"
@@ -79,8 +83,23 @@ stack_figure() {
     done <"$work/stacks"
 }
 
+# small WORDS..: words below 256 as a part has them
+small() { printf "$(printf '\\%o\\0\\0\\0' "$@")"; }
+
+# translates PREFIX: the command there writes a MUL of draft 0.5.0 by fp, and a refused program leaves what was written
+translates() {
+    small 1 2 3 0 0 1 0 1 0 0 0 0 0 0 >"$work/old"
+    small 1 2 0 0 0 0 1 0 1 0 0 0 >"$work/wanted"
+    gives 0 emulated "$1/bin/uisnabar" translate "$work/old" "$work/new"
+    cmp -s "$work/new" "$work/wanted" || fault "another translation: $1"
+    small 1 2 3 0 0 1 0 1 0 0 0 0 0 1 >>"$work/old"
+    gives 1 emulated "$1/bin/uisnabar" translate "$work/old" "$work/new"
+    complained 'EDITION: instruction 1 of the program of draft 0.5.0, at byte 56, is not translatable: AUX_2 must be 0'
+    cmp -s "$work/new" "$work/wanted" || fault "a refused program changed what was written: $1"
+}
+
 # holds_tree PREFIX: a driver compiled by pkg-config judges; the programs answer the shelf, and the command counts its
-# forms; all as in the repository
+# forms and translates; all as in the repository
 holds_tree() {
     local doc=$1/share/doc/uisnabar shelf=$1/share/uisnabar/shelf flags label
     flags=$(PKG_CONFIG_PATH=$1/lib/pkgconfig pkg-config --cflags --libs uisnabar) || fault "pkg-config knows no uisnabar"
@@ -98,6 +117,7 @@ holds_tree() {
     done
     gives 0 emulated "$1/bin/uisnabar" report "$work/tree-grid"
     said_file "$work/report"
+    translates "$1"
     for label in VERDICTS.md CHANGELOG.md driver.rs; do
         [ -s "$doc/$label" ] || fault "$doc has no $label"
     done

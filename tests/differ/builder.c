@@ -2,12 +2,12 @@
 
 enum { SUM, PRODUCT, PEQ };
 
-static uint32_t cell_at(const builder *b, uint32_t at)
+uint32_t cell_at(const builder *b, uint32_t at)
 {
     return get(b->to, MEMORY, at, 0);
 }
 
-static void pin(builder *b, uint32_t at, uint32_t count)
+void pin(builder *b, uint32_t at, uint32_t count)
 {
     for (uint32_t i = 0; i < count; i++)
         b->pinned[at + i] = true;
@@ -78,9 +78,7 @@ static void set_mode(uint32_t *form, uint32_t k, uint32_t mode)
         form[k == OP_C ? FP_C : FP_AB] = 1;
 }
 
-/* Gives operand k any legal meaning, and tells its value. */
-static uint32_t some_operand(builder *b, uint32_t *form, uint32_t k,
-                             uint32_t mode)
+uint32_t some_operand(builder *b, uint32_t *form, uint32_t k, uint32_t mode)
 {
     set_mode(form, k, mode);
     form[k] = some_word(b->random, b->cells);
@@ -94,9 +92,8 @@ static uint32_t some_operand(builder *b, uint32_t *form, uint32_t k,
     return cell_at(b, at);
 }
 
-/* Gives operand k a value, in the mode asked for unless no cell is free. */
-static void give_operand(builder *b, uint32_t *form, uint32_t k, uint32_t mode,
-                         uint32_t value)
+void give_operand(builder *b, uint32_t *form, uint32_t k, uint32_t mode,
+                  uint32_t value)
 {
     uint32_t at;
     if (mode == CELL && !find_free(b, 1, &at))

@@ -1,4 +1,4 @@
-/* Inside build.c, builder.c and forms.c only: single instructions. */
+/* Inside build.c, builder.c, forms.c and old_build.c only: single instructions. */
 #ifndef DIFFER_BUILDER_H
 #define DIFFER_BUILDER_H
 
@@ -21,7 +21,16 @@ void fill_memory(builder *b);
 /* `run` cells one after another that nothing relies on. */
 bool find_free(builder *b, uint32_t run, uint32_t *at);
 void set_cells(builder *b, uint32_t at, const uint32_t *words, uint32_t count);
+uint32_t cell_at(const builder *b, uint32_t at);
+void pin(builder *b, uint32_t at, uint32_t count);
 uint32_t some_frame(builder *b);
+
+/* Gives operand k any legal meaning, and tells its value. */
+uint32_t some_operand(builder *b, uint32_t *form, uint32_t k, uint32_t mode);
+
+/* Gives operand k a value, in the mode asked for unless no cell is free. */
+void give_operand(builder *b, uint32_t *form, uint32_t k, uint32_t mode,
+                  uint32_t value);
 
 void put_form(builder *b, const uint32_t form[FORM_WORDS]);
 

@@ -80,6 +80,10 @@ static void call_library(void *at)
         c->returned = uisnabar_report(s[0].lent, s[0].len, s[1].lent, s[1].len,
                                       s[2].lent, s[2].len, s[3].lent, s[3].len);
         break;
+    case TRANSLATE:
+        c->returned = uisnabar_translate(s[0].lent, s[0].len, s[1].lent,
+                                         s[1].len, s[2].lent, s[2].len);
+        break;
     case TABLER:
         c->returned = probe_table(s[0].lent, s[0].len, s[1].lent, s[1].len,
                                   c->t->pc, c->t->fp, s[2].lent, s[2].len,
@@ -118,6 +122,8 @@ static second_answer second_answers(const attempt *t, const slot *s, given *out)
             s[2].mirror, s[2].len, s[3].mirror, s[3].len, s[4].mirror);
     case REPORT:
         return second_report(s[0].mirror, s[1].mirror, s[1].len, &out->written);
+    case TRANSLATE:
+        return second_translate(s[0].mirror, s[0].len, s[1].mirror, s[1].len);
     case TABLER:
         return second_table(s[0].mirror, s[0].len, s[1].mirror, s[1].len,
                             t->pc, t->fp, s[2].mirror, s[2].len,
@@ -136,7 +142,7 @@ static int answer_slot(enum function f)
 {
     static const int slots[FUNCTIONS] = {
         [JUDGE] = 4, [LABEL_READER] = 1, [TABLER] = 4, [MAKER] = 2,
-        [LABEL_WRITER] = 1, [COUNT] = 5, [REPORT] = 3
+        [LABEL_WRITER] = 1, [COUNT] = 5, [REPORT] = 3, [TRANSLATE] = 2
     };
     return slots[f];
 }
@@ -243,7 +249,8 @@ second_answer compare(differ *d, const attempt *t)
             slot_lend(&d->slots[i], &d->filler, d->paged, b->bytes, b->len);
     }
     d->calls++;
-    d->counts += t->function == COUNT || t->function == REPORT;
+    d->extra += t->extra || t->function == COUNT || t->function == REPORT
+             || t->function == TRANSLATE;
     prepare_fault(d);
     if (d->paged)
         call_on_thread(d, call_library, &c);

@@ -23,11 +23,12 @@ typedef struct {
     second_recipe recipe; /* maker and writer */
     buffer lent[SLOTS];
     bool sorted;          /* the bus would be slow to count */
+    bool extra;           /* beside the calls that are asked for */
 } attempt;
 
 typedef struct {
     uint64_t seed, limit, differences;
-    uint64_t calls, counts; /* all of them; those of count and report */
+    uint64_t calls, extra; /* all of them; those beside what is asked for */
     source random; /* for what is tried */
     source filler; /* for random bytes and where buffers stand */
     bool paged;
@@ -45,11 +46,11 @@ bool differ_open(differ *d, uint64_t seed, bool paged);
 void note(differ *d, const char *format, ...);
 void note_back(differ *d, size_t len);
 
-/* More calls are asked for.  Counts and reports come beside those that are
- * asked for, so that they take the place of no other. */
+/* More calls are asked for.  Counts, reports, translations and what is tabled
+ * of these come beside, so that they take the place of no other. */
 static inline bool more_calls(const differ *d)
 {
-    return d->calls - d->counts < d->limit;
+    return d->calls - d->extra < d->limit;
 }
 
 /* Calls both, compares everything, counts what was reached; gives the second's

@@ -95,5 +95,6 @@ bool try_large(void)
     bool good = try_size(18);
     good &= try_size(19);
     good &= try_dense(14, 14);
-    return try_dense(16, 14) && good;
+    good &= try_dense(16, 14);
+    return try_large_olds() && good;
 }

@@ -1,7 +1,9 @@
 /* The largest lengths and the next ones.  No byte of the large part need be
  * read, since the program's first word is refused once all lengths are good;
- * only a large program is read, and that takes a moment. */
+ * only a large program is read, and that takes a moment.  An old program is
+ * read whole: its zeros are words, and only its first instruction is refused. */
 #define _DEFAULT_SOURCE
+#include "olds.h"
 #include "tries.h"
 
 #include <stdio.h>
@@ -28,6 +30,19 @@ static void try_limit(differ *d, enum function f, int part, size_t count,
     compare(d, &t);
 }
 
+/* Instructions of zeros have no opcode. */
+static void try_old_limit(differ *d, size_t count, uint8_t *zeros)
+{
+    attempt t = { .function = TRANSLATE };
+    t.lent[0] = (buffer){ zeros, OLD_UNIT * count, true };
+    t.lent[1] = (buffer){ zeros + OLD_UNIT * count, unit_of(PROGRAM) * count,
+                          true };
+    t.lent[2].len = 16;
+    note_back(d, 0);
+    note(d, "%zu old instructions of zeros", count);
+    compare(d, &t);
+}
+
 /* A write to these bytes faults, so nothing has to be compared. */
 void try_limits(differ *d)
 {
@@ -44,5 +59,7 @@ void try_limits(differ *d)
             try_limit(d, functions[i / 2], part,
                       i % 2 == 0 ? most[part] : next, zeros);
     }
+    try_old_limit(d, most[PROGRAM], zeros);
+    try_old_limit(d, most[PROGRAM] + 1, zeros);
     munmap(zeros, bytes);
 }

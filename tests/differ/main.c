@@ -1,10 +1,11 @@
 /* Compares the library with the second implementation, call by call.
  *
- *   differ SEED CALLS             stops after that many calls, counts and
- *                                 reports not among them
+ *   differ SEED CALLS             stops after that many calls, counts, reports
+ *                                 and translations not among them
  *   differ SEED 0 SECONDS         stops after that long
  *   differ --page SEED CALLS      buffers at pages that fault, small stack
- *   differ --large                a few tables of 16,383 and of 32,767 groups
+ *   differ --large                a few tables of 16,383 and of 32,767 groups,
+ *                                 and old programs of 2^20 instructions
  *
  * Ends with 0 if there is no difference and everything listed in tally.c was
  * reached, 1 if not, 2 if it could not run. */
@@ -35,7 +36,8 @@ static double seconds_now(void)
     return (double)t.tv_sec + (double)t.tv_nsec / 1e9;
 }
 
-/* A world, then labels, recipes and a report; all forms now and then. */
+/* A world, then labels, recipes, a report and old programs; all forms now and
+ * then. */
 static void one_turn(differ *d, uint32_t turn)
 {
     if (turn % 16 == 0)
@@ -48,6 +50,9 @@ static void one_turn(differ *d, uint32_t turn)
     if (more_calls(d))
         try_maker(d);
     try_report(d);
+    for (int i = 0; i < 4; i++)
+        try_translation(d);
+    try_old_runs(d);
 }
 
 /* Until calls or seconds are used up. */
@@ -55,6 +60,7 @@ static void run(differ *d, uint64_t seconds)
 {
     double from = seconds_now();
     try_limits(d);
+    try_every_old(d);
     for (uint32_t turn = 0; more_calls(d)
          && (seconds == 0 || seconds_now() - from < (double)seconds); turn++)
         one_turn(d, turn);
@@ -80,7 +86,8 @@ int main(int argc, char **argv)
         || (calls == 0) != (seconds != 0))
         return usage();
     printf("seed %" PRIu64 "\n", seed);
-    if (!differ_open(&all, seed, paged) || !rounds_open() || !forms_open()) {
+    if (!differ_open(&all, seed, paged) || !rounds_open() || !forms_open()
+        || !old_runs_open()) {
         fprintf(stderr, "differ: no room\n");
         return 2;
     }
@@ -92,8 +99,8 @@ int main(int argc, char **argv)
     run(&all, seconds);
     end_campaign(&all);
     bool complete = tally_report(&all.reached);
-    printf("calls: %" PRIu64 ", and %" PRIu64 " counts and reports\n"
-           "differences: %" PRIu64 "\n", all.calls - all.counts, all.counts,
-           all.differences);
+    printf("calls: %" PRIu64 ", and %" PRIu64 " of counts, reports and "
+           "translations\ndifferences: %" PRIu64 "\n", all.calls - all.extra,
+           all.extra, all.differences);
     return complete && all.differences == 0 ? 0 : 1;
 }

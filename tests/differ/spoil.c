@@ -40,8 +40,7 @@ void spoil_length(differ *d, world *w)
     }
 }
 
-/* The old word plus p is the same number modulo p. */
-static uint32_t too_large(source *random, uint32_t old)
+uint32_t too_large(source *random, uint32_t old)
 {
     switch (below(random, 4)) {
     case 0:

@@ -5,12 +5,13 @@
 
 const char *const function_names[FUNCTIONS] = {
     "judge", "label reader", "tabler", "maker", "label writer", "count",
-    "report"
+    "report", "translation"
 };
 
 static const char *const verdict_names[VERDICTS] = {
     "ACCEPTED", "SIZE", "WORD", "INSTRUCTION", "START", "EXEC", "EXTENSION",
-    "BUS", "LABEL", "STUCK", "ROOM", "OPEN", "SELF", "ANSWER", "GRID"
+    "BUS", "LABEL", "STUCK", "ROOM", "OPEN", "SELF", "ANSWER", "GRID",
+    "EDITION"
 };
 
 static const char *const case_names[GRID_CASES] = {
@@ -51,6 +52,8 @@ static const bool expected[FUNCTIONS][VERDICTS] = {
                 [EXTENSION] = true, [BUS] = true, [ANSWER] = true,
                 [GRID] = true },
     [REPORT] = { [ACCEPTED] = true, [SIZE] = true, [ANSWER] = true },
+    [TRANSLATE] = { [ACCEPTED] = true, [SIZE] = true, [WORD] = true,
+                    [ANSWER] = true, [EDITION] = true },
 };
 
 /* A number outside its table is a difference's business, not the tally's. */
@@ -86,7 +89,7 @@ typedef struct {
     uint32_t first, last; /* each from first to last must be reached */
 } line;
 
-enum { LINES = 15 };
+enum { LINES = 17 };
 
 static void lines_of(const tally *t, line out[LINES])
 {
@@ -106,6 +109,8 @@ static void lines_of(const tally *t, line out[LINES])
         { "count's SIZE part", t->size[COUNT], 1, LAST_PART },
         { "count's WORD part", t->word[COUNT], 1, LAST_PART },
         { "report's SIZE part", t->size[REPORT], LAST_SIZE_PART, LAST_SIZE_PART },
+        { "translation's SIZE part", t->size[TRANSLATE], 1, 1 },
+        { "translation's WORD part", t->word[TRANSLATE], 1, 1 },
     };
     for (int i = 0; i < LINES; i++)
         out[i] = all[i];
@@ -166,5 +171,6 @@ bool tally_report(const tally *t)
     }
     print_cases(t);
     bool complete = print_missing(t, lines) == 0;
-    return forms_report(t->forms) && complete;
+    complete = forms_report(t->forms) && complete;
+    return old_report(&t->olds) && complete;
 }

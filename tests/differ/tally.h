@@ -5,13 +5,14 @@
 #include <stdbool.h>
 
 #include "../second/second.h"
+#include "old_tally.h"
 
 enum function { JUDGE, LABEL_READER, TABLER, MAKER, LABEL_WRITER, COUNT, REPORT,
-                FUNCTIONS };
+                TRANSLATE, FUNCTIONS };
 
 /* The documents' verdicts. */
 enum { ACCEPTED, SIZE, WORD, INSTRUCTION, START, EXEC, EXTENSION, BUS, LABEL,
-       STUCK, ROOM, OPEN, SELF, ANSWER, GRID, VERDICTS };
+       STUCK, ROOM, OPEN, SELF, ANSWER, GRID, EDITION, VERDICTS };
 
 /* The last place is that of a byte after the longest label. */
 enum { LAST_EXEC_RULE = 16, LAST_EXT_RULE = 21, LAST_STUCK_RULE = 8,
@@ -32,6 +33,7 @@ typedef struct {
     uint64_t place[LAST_PLACE + 1];
     uint64_t cases[GRID_CASES];
     uint64_t forms[SECOND_COUNTERS]; /* rows that the library counted */
+    old_tally olds;
 } tally;
 
 extern const char *const function_names[FUNCTIONS];

@@ -29,8 +29,20 @@ void end_campaign(differ *d);
 bool forms_open(void);
 void try_forms(differ *d);
 
+/* translations.c: an old program to the translation, as it is or spoilt; once
+ * every flag, opcode and AUX word, 0, 1 or another. */
+void try_translation(differ *d);
+void try_every_old(differ *d);
+
+/* old_runs.c: an old program's run beside its translation's. */
+bool old_runs_open(void);
+void try_old_runs(differ *d);
+
 /* large.c: tables of many groups; false where the two differ. */
 bool try_large(void);
+
+/* large_old.c: old programs of as many instructions as there may be. */
+bool try_large_olds(void);
 
 /* limits.c: lengths at the largest of each part and just above. */
 void try_limits(differ *d);

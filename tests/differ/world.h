@@ -94,6 +94,9 @@ void damage_ext(differ *d, world *w);
 void follow_exec(world *w, uint32_t row);
 void follow_ext(world *w, uint32_t row);
 
+/* A word at or above p; the old word plus p is the same number modulo p. */
+uint32_t too_large(source *random, uint32_t old);
+
 /* Another word than the one that stands at a row's column. */
 uint32_t other_word(differ *d, const world *w, int part, uint32_t at,
                     uint32_t column);

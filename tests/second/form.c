@@ -13,8 +13,8 @@ static bool power_length(size_t len, uint64_t unit, int low, int high)
 second_answer second_sizes(size_t program_len, size_t memory_len,
                            size_t exec_len, size_t ext_len)
 {
-    if (program_len == 0 || program_len % FORM_BYTES != 0
-        || program_len / FORM_BYTES > (size_t)1 << 20)
+    if (program_len % FORM_BYTES != 0
+        || !instructions_fit(program_len / FORM_BYTES))
         return answer(SIZE, 1, 0, 0);
     if (!power_length(memory_len, 4, 8, 29))
         return answer(SIZE, 2, 0, 0);

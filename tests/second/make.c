@@ -20,14 +20,6 @@ static void put(uint8_t *memory, uint32_t index, uint32_t value)
     store_word(memory + 4 * (size_t)index, value);
 }
 
-static void store_form(uint8_t *program, uint32_t i, const form *f)
-{
-    const uint32_t words[12] = { f->a, f->b, f->c, f->fa, f->fb, f->fc, f->fpc,
-                                 f->fpab, f->mul, f->jump, f->aux, f->data };
-    for (uint32_t k = 0; k < 12; k++)
-        store_word(program + (size_t)FORM_BYTES * i + 4 * k, words[k]);
-}
-
 static form make_add(uint8_t *memory, uint32_t a, uint32_t c, uint32_t slot)
 {
     form f = { .a = a, .b = slot, .c = c, .aux = 1 };
@@ -115,9 +107,9 @@ second_answer second_make(second_recipe r, uint8_t *program, size_t program_len,
         put(memory, i, draw(&r.seed) % P);
     for (uint32_t i = 0; i < r.n; i++) {
         form f = make_form(memory, &r.seed, i);
-        store_form(program, i, &f);
+        store_form(program + (size_t)FORM_BYTES * i, &f);
     }
     form last = make_jump(1, r.n);
-    store_form(program, r.n, &last);
+    store_form(program + (size_t)FORM_BYTES * r.n, &last);
     return answer(ACCEPTED, 0, 0, 0);
 }

@@ -6,7 +6,7 @@
 #include "word.h"
 
 enum { ACCEPTED, SIZE, WORD, INSTRUCTION, START, EXEC, EXTENSION, BUS, LABEL,
-       STUCK, ROOM, OPEN, GRID = 14 };
+       STUCK, ROOM, OPEN, GRID = 14, EDITION };
 
 enum { FORM_BYTES = 48, EXEC_BYTES = 32, EXT_BYTES = 120 };
 
@@ -72,6 +72,14 @@ static inline form load_form(const uint8_t *from)
     return f;
 }
 
+static inline void store_form(uint8_t *to, const form *f)
+{
+    const uint32_t words[12] = { f->a, f->b, f->c, f->fa, f->fb, f->fc, f->fpc,
+                                 f->fpab, f->mul, f->jump, f->aux, f->data };
+    for (uint32_t k = 0; k < 12; k++)
+        store_word(to + 4 * k, words[k]);
+}
+
 /* The instruction at pc, which must be in the program. */
 static inline form form_at(const parts *in, uint32_t pc)
 {
@@ -126,6 +134,11 @@ static inline values select_values(const form *f, const exec_row *row)
         select_value(f->fc, f->fpc, row->fp, f->c, row->value_c),
     };
     return v;
+}
+
+static inline bool instructions_fit(uint64_t count)
+{
+    return count >= 1 && count <= (uint64_t)1 << 20;
 }
 
 /* form.c: SIZE for parts 1 to 4; WORD for one part; INSTRUCTION. */

@@ -1,6 +1,6 @@
-/* A second judge, counter of instruction forms, tabler, maker and label reader
- * and writer for leanVM test tables, written from the documents alone (see
- * README.md).
+/* A second judge, counter of instruction forms, tabler, translator of programs
+ * of draft 0.5.0, maker and label reader and writer for leanVM test tables,
+ * written from the documents alone (see README.md).
  *
  * No function here keeps state, so all may be called from several threads.
  * A pointer may be NULL where its length is 0.  Buffers must not overlap. */
@@ -73,6 +73,24 @@ second_answer second_table(const uint8_t *program, size_t program_len,
                            uint64_t pc, uint64_t fp,
                            uint8_t *exec, size_t exec_len,
                            uint8_t *ext, size_t ext_len);
+
+/* A program of draft 0.5.0 (14 words an instruction, in the order of its 3.1.3)
+ * into the form of draft 0.6.0 (12 words).  The old bytes of program are not
+ * looked at, and change on ACCEPTED alone. */
+second_answer second_translate(const uint8_t *old, size_t old_len,
+                               uint8_t *program, size_t program_len);
+
+/* A machine's registers. */
+typedef struct {
+    uint32_t pc, fp;
+} second_state;
+
+/* One step of the 0.5.0 machine: gives 0 and moves the state on, or gives the
+ * rule by which it is STUCK, 1 to 6, and lets the state stand.  The program
+ * must be one that second_translate takes; all words are below p. */
+uint32_t second_old_step(const uint8_t *old, size_t old_len,
+                         const uint8_t *memory, size_t memory_len,
+                         second_state *s);
 
 /* Fills program (48 * (n + 1) bytes) and memory (4 * 2^m bytes) from a
  * recipe; a refusal changes no byte. */

@@ -94,6 +94,18 @@ uint32_t second_makes(job *j)
     return told(second_make(r, in->program, 48 * (j->n + 1), in->memory, (size_t)4 << j->m));
 }
 
+uint32_t library_translate(job *j)
+{
+    speed_input *in = j->in;
+    return uisnabar_translate(in->old, in->old_len, in->program, in->program_len, answer, sizeof answer);
+}
+
+uint32_t second_translates(job *j)
+{
+    speed_input *in = j->in;
+    return told(second_translate(in->old, in->old_len, in->program, in->program_len));
+}
+
 /* labels of every seed in turn, so that no call can be left out */
 static void next_seed(job *j)
 {

@@ -34,6 +34,8 @@ uint32_t library_table(job *j);
 uint32_t second_tables(job *j);
 uint32_t library_make(job *j);
 uint32_t second_makes(job *j);
+uint32_t library_translate(job *j);
+uint32_t second_translates(job *j);
 uint32_t library_label(job *j);
 uint32_t second_label(job *j);
 uint32_t library_whole(job *j);

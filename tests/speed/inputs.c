@@ -224,8 +224,37 @@ speed_input speed_halted(unsigned height_log)
     return in;
 }
 
+enum { OLD_WORDS = 14, FLAG_A = 3, FLAG_B, FLAG_C, OPCODES, DEREF = 2, AUX_1 = 12 };
+
+static void old_instruction(builder *b, size_t i)
+{
+    uint32_t w[OLD_WORDS] = {0}, kind = draw(b) % 4;
+    for (size_t k = 0; k < OPCODES; k++)
+        w[k] = k < FLAG_A ? draw(b) % P : draw(b) % 2;
+    w[OPCODES + kind] = 1;
+    if (kind == DEREF) {
+        w[FLAG_A] = 0;
+        w[FLAG_C] = 1;
+        w[AUX_1] = w[FLAG_B] == 0 || draw(b) % 2 == 0;
+    }
+    for (size_t k = 0; k < OLD_WORDS; k++)
+        store_word(b->in->old + 4 * (OLD_WORDS * i + k), w[k]);
+}
+
+speed_input speed_old(unsigned log)
+{
+    speed_input in = blank(log, 8, 8);
+    builder b = {.in = &in, .state = 1};
+    in.old_len = 4 * OLD_WORDS * in.height;
+    in.old = zeros(in.old_len);
+    for (size_t i = 0; i < in.height; i++)
+        old_instruction(&b, i);
+    return in;
+}
+
 void speed_free(speed_input *in)
 {
+    free(in->old);
     free(in->program);
     free(in->memory);
     free(in->exec);

@@ -9,6 +9,8 @@ typedef struct {
     size_t height, ext_height, cells;
     size_t program_len, memory_len, exec_len, ext_len;
     uint8_t *program, *memory, *exec, *ext, *shuffled;
+    size_t old_len;
+    uint8_t *old; /* a program of draft 0.5.0 */
 } speed_input;
 
 /* Program and memory of a run of `height` steps with a quarter as many extension rows; both tables zero. */
@@ -27,6 +29,9 @@ speed_input speed_dense(unsigned height_log, unsigned ext_log);
 
 /* Program and memory of a run that stays on its one instruction: of all tables the judge takes least for a row of these. */
 speed_input speed_halted(unsigned height_log);
+
+/* In `old` a program of draft 0.5.0, of all kinds, flags and AUX words; `program` has room for its translation. */
+speed_input speed_old(unsigned log);
 
 void speed_free(speed_input *in);
 

@@ -214,6 +214,27 @@ static void makers(void)
     speed_free(&in);
 }
 
+/* Programs of draft 0.5.0. */
+static void translations(void)
+{
+    static const unsigned logs[SIZES] = {12, 15, 18};
+    static const char *const sizes[SIZES] = {"2^12 instructions", "2^15 instructions", "2^18 instructions"};
+    static speed_input in[SIZES];
+    static compared c[SIZES];
+    for (int s = 0; s < SIZES; s++) {
+        in[s] = speed_old(logs[s]);
+        c[s] = (compared){.size = sizes[s], .units = (double)in[s].height};
+        c[s].j = (job){.in = &in[s], .calls = s == 0 ? 16 : s == 1 ? 2 : 1};
+    }
+    compare("translation, each instruction", c, SIZES, ROUNDS, library_translate, second_translates);
+    for (int s = 0; s < SIZES; s++) {
+        double megabytes = (double)in[s].old_len / 1e6;
+        printf("%-34s %-26s library %.0f MB/s of old words, second %.0f MB/s\n", "", sizes[s], megabytes / c[s].library,
+               megabytes / c[s].second);
+        speed_free(&in[s]);
+    }
+}
+
 static void labels(void)
 {
     static const uint32_t ns[SIZES] = {1, 62, 124};
@@ -235,6 +256,7 @@ int main(void)
     refused(0);
     refused(1);
     makers();
+    translations();
     labels();
     whole();
     return over_budget;

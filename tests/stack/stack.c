@@ -13,7 +13,7 @@
 enum { ROOM = 256 << 10, PAINT = 0xa5, GROUP = 4 * 120 };
 
 static uint8_t *stack;
-static speed_input in;
+static speed_input in, old;
 static uint8_t answer[16], recipe[16], text[64], grid[UISNABAR_GRID_BYTES], report_text[UISNABAR_REPORT_BYTES], written[8];
 static int above; /* a call that is exported used more than the header says */
 
@@ -38,6 +38,12 @@ static void *count(void *ext)
 static void *report(void *room)
 {
     uisnabar_report(grid, sizeof grid, report_text, *(size_t *)room, written, sizeof written, answer, sizeof answer);
+    return NULL;
+}
+
+static void *translate(void *len)
+{
+    uisnabar_translate(old.old, *(size_t *)len, old.program, old.program_len, answer, sizeof answer);
     return NULL;
 }
 
@@ -115,6 +121,18 @@ static size_t of_report(void)
     return most(touched(report, &rooms[0]), touched(report, &rooms[1]));
 }
 
+/* A translation, then EDITION and WORD at the last word, then SIZE. */
+static size_t of_translate(void)
+{
+    size_t whole = old.old_len, cut = whole - 1;
+    size_t used = touched(translate, &whole);
+    old.old[whole - 4] = 1;
+    used = most(used, touched(translate, &whole));
+    old.old[whole - 1] = 0xff;
+    used = most(used, touched(translate, &whole));
+    return most(used, touched(translate, &cut));
+}
+
 static void line(const char *name, size_t used, size_t start)
 {
     printf("%s: %zu bytes of stack\n", name, used - start);
@@ -136,14 +154,17 @@ int main(void)
     if (stack == MAP_FAILED)
         return 2;
     in = speed_build(15, 13, 17, 1);
+    old = speed_old(12);
     size_t start = touched(nothing, NULL);
     line("tabler", touched(tabler, NULL), start);
     exported("uisnabar_judge", over_tables(judge), start, UISNABAR_STACK_BYTES);
     exported("uisnabar_count", of_count(), start, UISNABAR_COUNT_STACK_BYTES);
     exported("uisnabar_report", of_report(), start, UISNABAR_STACK_BYTES);
+    exported("uisnabar_translate", of_translate(), start, UISNABAR_STACK_BYTES);
     exported("uisnabar_label", touched(label, NULL), start, UISNABAR_STACK_BYTES);
     line("label writer", touched(writer, NULL), start);
     line("maker", touched(maker, NULL), start);
     speed_free(&in);
+    speed_free(&old);
     return above;
 }

@@ -25,6 +25,7 @@ use Rattle.answer.specs.declared.Answer.the-variants.{
   Itself,
   Buffer,
   Grid,
+  Edition,
 }
 
 abbrev answerIn : ℕ → ℕ → ℕ → ℕ → Answer
@@ -45,6 +46,7 @@ answerIn verdict part place rule =
     ∷ Itself
     ∷ Buffer
     ∷ Grid
+    ∷ Edition place
     ∷ [])
     verdict Accepted
 
@@ -67,6 +69,7 @@ named-back (Open row) = refl
 named-back Itself = refl
 named-back Buffer = refl
 named-back Grid = refl
+named-back (Edition place) = refl
 
 pub one-number : (a b : Answer) → numbersOf a ≡ numbersOf b → a ≡ b
 one-number a b e = sym (named-back a) ∙ ap named e ∙ named-back b

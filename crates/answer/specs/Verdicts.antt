@@ -22,6 +22,7 @@ use Rattle.answer.specs.declared.Answer.the-variants.{
   Itself,
   Buffer,
   Grid,
+  Edition,
 }
 
 abbrev four : ℕ → ℕ → ℕ → ℕ → Numbers
@@ -43,6 +44,7 @@ numbersOf (Open row) = four 11 0 row 0
 numbersOf Itself = four 12 0 0 0
 numbersOf Buffer = four 13 0 0 0
 numbersOf Grid = four 14 0 0 0
+numbersOf (Edition place) = four 15 0 place 0
 
 -- verdict 0
 abbrev pub accepted : Answer → Bool

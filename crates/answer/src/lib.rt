@@ -19,6 +19,7 @@ pub enum Answer {
     Itself,
     Buffer,
     Grid,
+    Edition { place: u32 },
 }
 
 // An answer as the paper counts it. What a verdict does not name is 0.
@@ -60,6 +61,7 @@ pub fn four_numbers(a: Answer) -> Numbers
         Answer::Itself => four(12, 0, 0, 0),
         Answer::Buffer => four(13, 0, 0, 0),
         Answer::Grid => four(14, 0, 0, 0),
+        Answer::Edition { place } => four(15, 0, place, 0),
     }
 }
 

@@ -1,7 +1,7 @@
 -- Document 01, "Layouts", part 1; draft 0.6.0, 3.3.2: an instruction is 12 words, in this order.
 -- Declared in src/: Instruction (here).
 use Prim.Native.Nat.{ℕ, _+_}
-use mathlib.Core.List.{List}
+use mathlib.Core.List.{List, [], _∷_}
 use Rattle.word.specs.Bytes.{wordAt}
 use Rattle.form.specs.declared.Instruction.{Instruction}
 
@@ -22,3 +22,8 @@ instructionAt s at =
       aux = wordAt s (at + 40);
       «data» = wordAt s (at + 44);
     }
+
+-- an instruction's 12 words
+abbrev pub instructionWords : Instruction → List ℕ
+instructionWords i =
+    i .a ∷ i .b ∷ i .c ∷ i .fa ∷ i .fb ∷ i .fc ∷ i .fpc ∷ i .fpab ∷ i .mul ∷ i .jump ∷ i .aux ∷ i .«data» ∷ []

@@ -13,7 +13,7 @@ use Rattle.rows.specs.declared.Ext.{Ext}
 use Rattle.answer.specs.Verdicts.{numbersOf}
 use Rattle.answer.specs.declared.Numbers.{Numbers}
 use Rattle.answer.specs.declared.Answer.{Answer}
-use Rattle.answer.specs.declared.Answer.the-variants.{Accepted, Size, Word, Instruction as Malformed, Start, Exec as ExecRefused, Extension, Bus, Label, Stuck, Room, Open, Itself, Buffer, Grid}
+use Rattle.answer.specs.declared.Answer.the-variants.{Accepted, Size, Word, Instruction as Malformed, Start, Exec as ExecRefused, Extension, Bus, Label, Stuck, Room, Open, Itself, Buffer, Grid, Edition}
 use Rattle.rules.specs.Given.{Given, Rule, rule}
 use Rattle.rules.specs.Execution.{execRules}
 use Rattle.rules.specs.Extension.{extRules}
@@ -126,6 +126,7 @@ module _ (q : Parts) where
   says-narrow Itself x = absurd x
   says-narrow Buffer x = absurd x
   says-narrow Grid x = absurd x
+  says-narrow (Edition place) x = absurd x
 
   pub answer-narrow : Narrow (numbersOf (judgeOf q))
   answer-narrow = says-narrow (judgeOf q) (justified q)

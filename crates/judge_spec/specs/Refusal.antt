@@ -11,7 +11,7 @@ use lib.Dec.{T}
 use Rattle.word.specs.Word.{p, IsWord}
 use Rattle.form.specs.Form.{wellFormed}
 use Rattle.answer.specs.declared.Answer.{Answer}
-use Rattle.answer.specs.declared.Answer.the-variants.{Accepted, Size, Word, Instruction, Start, Exec as ExecRefused, Extension, Bus, Label, Stuck, Room, Open, Itself, Buffer, Grid}
+use Rattle.answer.specs.declared.Answer.the-variants.{Accepted, Size, Word, Instruction, Start, Exec as ExecRefused, Extension, Bus, Label, Stuck, Room, Open, Itself, Buffer, Grid, Edition}
 use Rattle.rules.specs.Given.{Given, Tables, Rule, rule}
 use Rattle.rules.specs.Bus.{Tuple, pushes, pulled, pulls, pushedTo, pulledTo, instructionOf}
 use Rattle.rules.specs.Sizes.{Parts, programFits, memoryFits, execFits, extFits, wordOf, givenOf, tablesOf}
@@ -136,7 +136,7 @@ module _ (q : Parts) where
     pub pulling : Pulls g t r
     pub bad : Equal g t (pulled (t .ext r)) → ⊥
 
-  -- what an answer of the judge says; the verdicts 8 to 14 are not the judge's
+  -- what an answer of the judge says; the verdicts 8 to 15 are not the judge's
   unfoldable pub Says : Answer → Type 0
   Says Accepted = Satisfies q
   Says (Size n place) = BadSize n place
@@ -153,3 +153,4 @@ module _ (q : Parts) where
   Says Itself = ⊥
   Says Buffer = ⊥
   Says Grid = ⊥
+  Says (Edition place) = ⊥

@@ -5,6 +5,7 @@ use Prim.Native.Nat.{ℕ}
 use mathlib.Core.Bool.{Bool, true}
 use lib.Dec.{ltb}
 use Rattle.word.specs.Word.{_+ₚ_}
+pub use Rattle.outcome.specs.Outcome.{State}
 use Rattle.form.specs.declared.Form.{Form}
 use Rattle.form.specs.declared.Operand.{Operand}
 use Rattle.form.specs.declared.Mode.{Mode}
@@ -16,10 +17,6 @@ pub record Machine : Type 0 where
   pub form : ℕ → Form
   pub size : ℕ
   pub cell : ℕ → ℕ
-
-pub record State : Type 0 where
-  pub pc : ℕ
-  pub fp : ℕ
 
 -- where an operand's cell lies, or would lie
 abbrev pub address : State → Operand → ℕ

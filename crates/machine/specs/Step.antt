@@ -5,21 +5,12 @@ use Prim.Native.Nat.{ℕ, _+_}
 use mathlib.Core.Bool.{Bool, true, false, _&&_, _||_}
 use lib.Dec.{ltb, eqb}
 use Rattle.word.specs.Word.{_+ₚ_, _*ₚ_}
+pub use Rattle.outcome.specs.Outcome.{Outcome, goes, stuck, asked}
 use Rattle.form.specs.declared.Form.{Form}
 use Rattle.form.specs.declared.Kind.{Kind}
 use Rattle.form.specs.declared.Kind.the-variants.{Add, Mul, Deref, Jump, Extension}
 use Rattle.machine.specs.Machine.{Machine, State, value, legal}
 use Rattle.machine.specs.Extension.{elementAt, cellsExist, result, sameElement}
-
--- what a step comes to
-pub data Outcome : Type 0 where
-  goes : State → Outcome
-  stuck : ℕ → Outcome
-
--- what is asked, or stuck by the rule of that number
-abbrev pub asked : ℕ → Bool → Outcome → Outcome
-asked rule true then = then
-asked rule false then = stuck rule
 
 abbrev pub forward : State → Outcome
 forward s = goes (record { pc = s .pc + 1; fp = s .fp })

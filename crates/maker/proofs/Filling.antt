@@ -10,10 +10,11 @@ use lib.ListN.{length, getD, take, drop, replicate, length-drop, drop-of-length-
 use lib.Seq.{length-take-le}
 use Rattle.word.specs.Bytes.{bytesOf}
 use Rattle.form.specs.declared.Instruction.{Instruction}
+use Rattle.form.specs.Instruction.{instructionWords}
 use Rattle.maker.specs.Drawn.{Draws}
 use Rattle.maker.specs.Made.{kindPicked, made, jumpTo, instructionMade, slotCells, cellOf}
 use Rattle.maker.specs.Inner.{cellIn, eight}
-use Rattle.maker.specs.Bytes.{wordBytes, instructionWords, instructionsOf, cellsOf}
+use Rattle.maker.specs.Bytes.{wordBytes, instructionsOf, cellsOf}
 use Rattle.word.proofs.Concatenated.{lent-length, parts-length, parts-append, parts-same, parts-one}
 use Rattle.maker.proofs.Parts.{words-length, zero-parts, lent, behind, front-length}
 use Rattle.maker.proofs.Cells.{drawn-cell, slot-cell, cell-past, slot-same, eight-at}

@@ -9,11 +9,11 @@ use lib.ListN.{getD}
 use Rattle.word.specs.Word.{IsWord}
 use Rattle.word.specs.Bytes.{wordAt, bytesOf, concatenated}
 use Rattle.word.proofs.FourBytes.{read-bytes}
-use Rattle.form.specs.Instruction.{instructionAt}
+use Rattle.form.specs.Instruction.{instructionAt, instructionWords}
 use Rattle.label.specs.declared.Recipe.{Recipe}
 use Rattle.maker.specs.Drawn.{drawsOf}
 use Rattle.maker.specs.Made.{instructionMade, cellOf}
-use Rattle.maker.specs.Bytes.{wordBytes, instructionWords, programOf, memoryOf}
+use Rattle.maker.specs.Bytes.{wordBytes, programOf, memoryOf}
 use Rattle.word.proofs.Concatenated.{word-in}
 use Rattle.maker.proofs.Parts.{words-length}
 use Rattle.maker.proofs.WellFormed.{drawable, program-words, cell-word}

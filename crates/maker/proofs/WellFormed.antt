@@ -2,22 +2,23 @@
 -- Assumes nothing.
 use mathlib.Core.Path.{_≡_, refl}
 use mathlib.Core.Bool.{true}
-use mathlib.Core.List.{List, [], _∷_}
-use Prim.Native.Nat.{ℕ, zero, suc, _+_, _-_, _/_, _%_, _≤_, _<_}
+use mathlib.Core.List.{[], _∷_}
+use Prim.Native.Nat.{ℕ, _+_, _-_, _/_, _%_, _≤_, _<_}
 use native.Mathlib.Nat.{mod-lt}
 use native.Mathlib.Omega.{arith}
 use lib.Dec.{ltb, lit<}
 use lib.ListN.{getD}
 use Rattle.word.specs.Word.{p, IsWord, _+ₚ_, _*ₚ_}
+use Rattle.word.proofs.Below.{AllBelow, each-below}
 use Rattle.word.proofs.WordLaws.{sum-word, product-word}
 use Rattle.form.specs.Form.{decodeOf, wellFormed}
 use Rattle.form.specs.declared.Instruction.{Instruction}
 use Rattle.form.specs.declared.Kind.{Kind}
 use Rattle.word.proofs.Tests.{by-test}
 use Rattle.form.proofs.DataLaws.{written}
+use Rattle.form.specs.Instruction.{instructionWords}
 use Rattle.maker.specs.Drawn.{Draws, drawsOf}
 use Rattle.maker.specs.Made.{opPicked, bePicked, countPicked, kindPicked, made, instructionMade, slotCells, cellOf}
-use Rattle.maker.specs.Bytes.{instructionWords}
 use Rattle.maker.proofs.Making.{by-kind, data-small, result-element}
 
 pub well-formed : (d : Draws) (n i : ℕ) → wellFormed (instructionMade d n i) ≡ true
@@ -27,16 +28,6 @@ well-formed d n i =
     (λ t. by-kind (λ (k : Kind). wellFormed (made i k (d .a i) (d .c i)) ≡ true) (d .kind i) (d .c i) refl refl refl refl
     (rw (written (opPicked (d .c i)) (bePicked (d .c i)) (countPicked (d .c i)) (omega arith) (omega arith))))
     (λ t. refl)
-
--- words, one after the other
-abbrev Words : List ℕ → Type 0
-Words [] = 0 < p
-Words (x ∷ xs) = (x < p) × Words xs
-
-each : (l : List ℕ) → Words l → (k : ℕ) → IsWord (getD l k 0)
-each [] w k = w
-each (x ∷ xs) w zero = w .0
-each (x ∷ xs) w (suc k) = each xs (w .1) k
 
 -- drawn cells are words, a and c below 32
 pub record Drawable (d : Draws) : Type 0 where
@@ -50,9 +41,9 @@ drawable seed = record { cells = λ k. mod-lt _ (lit< tt); a = λ i. mod-lt _ (l
 module _ (d : Draws) (is : Drawable d) (n : ℕ) where
   pub program-words : n ≤ 124 → (i : ℕ) → i ≤ n → (k : ℕ) → IsWord (getD (instructionWords (instructionMade d n i)) k 0)
   program-words most i h =
-      each (instructionWords (instructionMade d n i))
-      (by-test (λ (x : Instruction). Words (instructionWords x)) (ltb i n)
-      (λ t. by-kind (λ (x : Kind). Words (instructionWords (made i x (d .a i) (d .c i)))) (d .kind i) (d .c i)
+      each-below (instructionWords (instructionMade d n i))
+      (by-test (λ (x : Instruction). AllBelow p (instructionWords x)) (ltb i n)
+      (λ t. by-kind (λ (x : Kind). AllBelow p (instructionWords (made i x (d .a i) (d .c i)))) (d .kind i) (d .c i)
       (omega (arith, is .a i, is .c i)) (omega (arith, is .a i, is .c i)) (omega arith) (omega arith)
       (omega (arith, data-small (opPicked (d .c i)) (bePicked (d .c i)) (countPicked (d .c i)) (omega arith))))
       (λ t. omega arith))
@@ -60,8 +51,8 @@ module _ (d : Draws) (is : Drawable d) (n : ℕ) where
   slot-words : (kind a c : ℕ) → a < 32 → (j : ℕ) → IsWord (getD (slotCells (d .cell) (kindPicked kind c) a c) j 0)
   slot-words kind a c h =
       by-kind (λ (k : Kind). (j : ℕ) → IsWord (getD (slotCells (d .cell) k a c) j 0)) kind c
-      (each ((d .cell a +ₚ d .cell c) ∷ []) (sum-word _ _, lit< tt)) (each ((d .cell a *ₚ d .cell c) ∷ []) (product-word _ _, lit< tt))
-      (each (a ∷ d .cell a ∷ []) (omega arith, (is .cells a, lit< tt))) (each [] (lit< tt))
+      (each-below ((d .cell a +ₚ d .cell c) ∷ []) (sum-word _ _, lit< tt)) (each-below ((d .cell a *ₚ d .cell c) ∷ []) (product-word _ _, lit< tt))
+      (each-below (a ∷ d .cell a ∷ []) (omega arith, (is .cells a, lit< tt))) (each-below [] (lit< tt))
       (λ j. result-element (d .cell) (opPicked c) (bePicked c) (a % 16) (16 + a % 4) 0 (countPicked c) .all-words j)
 
   pub cell-word : (k : ℕ) → IsWord (cellOf d n k)

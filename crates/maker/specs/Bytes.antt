@@ -1,12 +1,12 @@
 -- Document 01, "Draws, recipe, label" and "Verdicts" SIZE parts 0 to 2: the maker's answer, and both buffers at return.
--- Declared in src/: Instruction (form); Answer (answer); Recipe (label).
+-- Declared in src/: Answer (answer); Recipe (label).
 use mathlib.Core.Bool.{Bool, cond, _&&_}
 use mathlib.Core.List.{List, [], _∷_}
 use Prim.Native.Nat.{ℕ, _+_, _*_, _^_}
 use lib.ListN.{length, getD}
 use lib.Dec.{eqb}
 use Rattle.word.specs.Bytes.{bytesOf, concatenated}
-use Rattle.form.specs.declared.Instruction.{Instruction}
+use Rattle.form.specs.Instruction.{instructionWords}
 use Rattle.answer.specs.declared.Answer.{Answer}
 use Rattle.answer.specs.declared.Answer.the-variants.{Accepted, Size}
 use Rattle.label.specs.Label.{ranged}
@@ -17,11 +17,6 @@ use Rattle.maker.specs.Made.{instructionMade, cellOf}
 -- four bytes for each word
 abbrev pub wordBytes : List ℕ → List ℕ
 wordBytes words = concatenated (λ k. bytesOf (getD words k 0)) (length words)
-
--- an instruction's 12 words
-abbrev pub instructionWords : Instruction → List ℕ
-instructionWords i =
-    i .a ∷ i .b ∷ i .c ∷ i .fa ∷ i .fb ∷ i .fc ∷ i .fpc ∷ i .fpab ∷ i .mul ∷ i .jump ∷ i .aux ∷ i .«data» ∷ []
 
 -- the first k instructions, of which n are drawn, and the first k cells
 abbrev pub instructionsOf : Draws → ℕ → ℕ → List ℕ

@@ -5,8 +5,8 @@ use form::data_word;
 ghost use mathlib.Core.Path.{_≡_};
 ghost use Prim.Native.Nat.{_≤_};
 ghost use Rattle.form.specs.Data.{dataWord};
+ghost use Rattle.form.specs.Instruction.{instructionWords};
 ghost use Rattle.maker.specs.Made.{opPicked, bePicked, countPicked, kindPicked, made, jumpTo};
-ghost use Rattle.maker.specs.Bytes.{instructionWords};
 
 fn data_of(c: u32) -> u32
     ensures { λ r. ⌜ r ≡ dataWord (opPicked c) (bePicked c) (countPicked c) ⌝ }

@@ -11,10 +11,11 @@ ghost use mathlib.Core.Path.{_≡_};
 ghost use mathlib.Core.List.{_++_};
 ghost use Prim.Native.Nat.{_+_, _-_, _*_, _/_, _%_, _≤_, _<_};
 ghost use lib.ListN.{length, take, drop};
+ghost use Rattle.form.specs.Instruction.{instructionWords};
 ghost use Rattle.maker.specs.Drawn.{drawsOf};
 ghost use Rattle.maker.specs.Made.{kindPicked, made, slotCells};
 ghost use Rattle.maker.specs.Inner.{cellIn, eight};
-ghost use Rattle.maker.specs.Bytes.{instructionWords, wordBytes, instructionsOf, cellsOf};
+ghost use Rattle.maker.specs.Bytes.{wordBytes, instructionsOf, cellsOf};
 
 // Words, into as many bytes.
 fn put_words(words: &[u32], s: &mut [u8])

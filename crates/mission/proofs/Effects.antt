@@ -24,7 +24,8 @@ use Rattle.rules.specs.Sizes.{Parts}
 use Rattle.judge_spec.specs.Judged.{judgeOf}
 use Rattle.reply.specs.Reply.{verdictOf}
 use Rattle.uisnabar.specs.Calls.{bothFit}
-use Rattle.uisnabar.proofs.Buffers.{buffer-told, unchanged, unfit-left, unfit-right}
+use Rattle.reply.proofs.Unfit.{buffer-told, unchanged}
+use Rattle.uisnabar.proofs.Buffers.{unfit-left, unfit-right}
 use Rattle.mission.specs.Promises.{IsRefusal, JudgeCall, ReaderCall}
 
 module _ (r : Recipe) (program memory : List ℕ) where

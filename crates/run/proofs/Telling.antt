@@ -28,6 +28,7 @@ use Rattle.answer.specs.declared.Answer.the-variants.{
   Itself,
   Buffer,
   Grid,
+  Edition,
 }
 use Rattle.machine.specs.Machine.{State}
 use Rattle.rules.specs.Sizes.{Parts, given, tablesOf}
@@ -140,6 +141,7 @@ module _ (i : Input) (exec ext : List ℕ) where
   tells-only Itself x = absurd x
   tells-only Buffer x = absurd x
   tells-only Grid x = absurd x
+  tells-only (Edition place) x = absurd x
 
   -- the tabler gives an answer exactly where what it tells is so
   pub tells-exactly : (a : Answer) → (answerFor i exec ext ≡ a) ↔ Tells i exec ext a

@@ -30,6 +30,7 @@ use Rattle.answer.specs.declared.Answer.the-variants.{
   Itself,
   Buffer,
   Grid,
+  Edition,
 }
 use Rattle.machine.specs.Machine.{Machine, State, value, legal}
 use Rattle.machine.specs.Extension.{elementAt, cellsExist, result, sameElement}
@@ -154,7 +155,7 @@ module _ (i : Input) (exec ext : List ℕ) where
     pub legal : LegalRun i height state
     pub spare : Spare i height extHeight state
 
-  -- what an answer of the tabler says; the verdicts 5 to 8 and 12 to 14 are not the tabler's
+  -- what an answer of the tabler says; the verdicts 5 to 8 and 12 to 15 are not the tabler's
   unfoldable pub Tells : Answer → Type 0
   Tells Accepted = AcceptedRun
   Tells (Size n place) = BadSize allParts n place
@@ -171,3 +172,4 @@ module _ (i : Input) (exec ext : List ℕ) where
   Tells Itself = ⊥
   Tells Buffer = ⊥
   Tells Grid = ⊥
+  Tells (Edition place) = ⊥

@@ -23,6 +23,7 @@ use Rattle.answer.specs.declared.Answer.the-variants.{
   Itself,
   Buffer,
   Grid,
+  Edition,
 }
 use Rattle.machine.specs.Machine.{Machine, State}
 use Rattle.machine.specs.Step.{Outcome, goes, stuck, step}
@@ -90,6 +91,7 @@ heldAfter (Open row) old written = replicate (length old) 0
 heldAfter Itself old written = old
 heldAfter Buffer old written = old
 heldAfter Grid old written = old
+heldAfter (Edition place) old written = old
 
 abbrev pub execAfter : List ℕ → List ℕ → ℕ → ℕ → List ℕ → List ℕ → List ℕ
 execAfter program memory pc fp exec ext =

@@ -1,9 +1,12 @@
-// The C library: the judge, form counts and the label reader, as include/uisnabar.h declares them.
+// The C library: the judge, form counts, programs from draft 0.5.0 and the label reader, as include/uisnabar.h declares
+// them.
+mod editions;
 mod forms;
 
 use answer::Answer;
 use answer::accepted;
 use answer::four_numbers;
+pub use editions::uisnabar_translate;
 pub use forms::uisnabar_count;
 pub use forms::uisnabar_report;
 use label::Recipe;

@@ -3,7 +3,7 @@ use borrow.Author.Needs.{needs}
 use mathlib.Core.Path.{_∙_}
 use Rattle.answer.specs.declared.Answer.the-variants.{Buffer}
 use Rattle.uisnabar.specs.Calls.{answerTo}
-use Rattle.uisnabar.proofs.Buffers.{same-returned, same-replied}
+use Rattle.reply.proofs.Unfit.{same-returned, same-replied}
 use Rattle.uisnabar.proofs.uisnabar_judge.Statement.{statement}
 use Rattle.uisnabar.proofs.uisnabar_judge.Tie as tie
 

@@ -4,7 +4,8 @@ use lib.Dec.{eqb}
 use lib.ListN.{length}
 use mathlib.Core.Path.{refl, _∙_}
 use Rattle.answer.specs.declared.Answer.the-variants.{Buffer}
-use Rattle.uisnabar.proofs.Buffers.{buffer-told, unchanged, unfit-left, unfit-right, unfit, fit}
+use Rattle.reply.proofs.Unfit.{buffer-told, unchanged}
+use Rattle.uisnabar.proofs.Buffers.{unfit-left, unfit-right, unfit, fit}
 use Rattle.uisnabar.proofs.uisnabar_label.Statement.{statement}
 use Rattle.uisnabar.proofs.uisnabar_label.Tie as tie
 

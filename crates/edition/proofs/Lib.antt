@@ -1,0 +1,3 @@
+pub mod Ends
+pub mod Filled
+pub mod Part

@@ -1,0 +1,4 @@
+pub mod Isa
+pub mod OldMachine
+pub mod OldStep
+pub mod Encoding

@@ -1,0 +1,1 @@
+// What a step of either machine comes to: definitions alone, in specs/.
