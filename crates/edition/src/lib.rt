@@ -1,7 +1,5 @@
 // M-102, document 02: a program of draft 0.5.0 translated into the form of draft 0.6.0.
 mod encoded;
-mod known;
-mod translation;
 mod walk;
 
 use answer::Answer;

@@ -1,7 +1,7 @@
 // Over all instructions: the first that is not translatable, and each translated.
 use crate::encoded::encoded_inside;
-use crate::known::is_translatable;
-use crate::translation::translation;
+use edition_words::is_translatable;
+use edition_words::translation;
 use form_bytes::put_instruction;
 ghost use mathlib.Core.Path.{_≡_};
 ghost use Prim.Native.Nat.{_*_};

@@ -62,7 +62,7 @@ fn exchange(e: Encoded) -> Instruction
     deref_form(e.a, e.c, 0, 0, 1)
 }
 
-pub(crate) fn translation(e: Encoded) -> Instruction
+pub fn translation(e: Encoded) -> Instruction
     ensures { λ r. ⌜ r ≡ translated e ⌝ }
 {
     if e.deref == 1 {

@@ -1,8 +1,8 @@
 -- The test of the C flag picks the same form in `carried`.
 use borrow.Author.Needs.{needs}
 use borrow.Author.Tests.{ne-eqb}
-use Rattle.edition.proofs.translation.carry.Statement.{statement}
-use Rattle.edition.proofs.translation.carry.Tie as tie
+use Rattle.edition_words.proofs.forms.carry.Statement.{statement}
+use Rattle.edition_words.proofs.forms.carry.Tie as tie
 
 returns : tie.Need-returns
 returns c = rw (c .three-form .ensures, c .before .if1 .taken)

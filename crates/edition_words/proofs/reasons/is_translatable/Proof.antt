@@ -6,8 +6,8 @@ use mathlib.Core.Logic.{⊎-elim}
 use mathlib.Core.Path.{_≡_, _∙_}
 use lib.Dec.{eqb}
 use Rattle.edition_spec.specs.Translatable.{derefFixed, translatable}
-use Rattle.edition.proofs.known.is_translatable.Statement.{statement}
-use Rattle.edition.proofs.known.is_translatable.Tie as tie
+use Rattle.edition_words.proofs.reasons.is_translatable.Statement.{statement}
+use Rattle.edition_words.proofs.reasons.is_translatable.Tie as tie
 
 picked : (c : tie.Joined1) → let e = c .before .before .args .e in c .if1 .fixed ≡ cond (eqb (e .deref) 1) (derefFixed e) (eqb (e .aux1) 0)
 picked c =

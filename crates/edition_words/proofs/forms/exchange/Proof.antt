@@ -1,8 +1,8 @@
 -- The test of AUX_1 picks the same form in `exchanged`.
 use borrow.Author.Needs.{needs}
 use borrow.Author.Tests.{ne-eqb}
-use Rattle.edition.proofs.translation.exchange.Statement.{statement}
-use Rattle.edition.proofs.translation.exchange.Tie as tie
+use Rattle.edition_words.proofs.forms.exchange.Statement.{statement}
+use Rattle.edition_words.proofs.forms.exchange.Tie as tie
 
 returns : tie.Need-returns
 returns c = rw (c .deref-form .ensures, c .before .if1 .taken)

@@ -1,7 +1,7 @@
 -- Each word keeps its value in 64 bits.
 use borrow.Author.Needs.{needs}
-use Rattle.edition.proofs.known.one_opcode.Statement.{statement}
-use Rattle.edition.proofs.known.one_opcode.Tie as tie
+use Rattle.edition_words.proofs.reasons.one_opcode.Statement.{statement}
+use Rattle.edition_words.proofs.reasons.one_opcode.Tie as tie
 
 returns : tie.Need-returns
 returns c =

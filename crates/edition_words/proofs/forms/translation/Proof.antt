@@ -2,8 +2,8 @@
 use borrow.Author.Needs.{needs}
 use borrow.Author.Tests.{ne-eqb}
 use Rattle.edition_spec.specs.Translation.{translated}
-use Rattle.edition.proofs.translation.translation.Statement.{statement}
-use Rattle.edition.proofs.translation.translation.Tie as tie
+use Rattle.edition_words.proofs.forms.translation.Statement.{statement}
+use Rattle.edition_words.proofs.forms.translation.Tie as tie
 
 returns : tie.Need-returns
 unfolding translated

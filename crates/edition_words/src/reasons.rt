@@ -35,7 +35,7 @@ fn no_precompile(e: Encoded) -> bool
     (e.precompile == 0) & (e.index == 0)
 }
 
-pub(crate) fn is_translatable(e: Encoded) -> bool
+pub fn is_translatable(e: Encoded) -> bool
     ensures { λ r. ⌜ r ≡ translatable e ⌝ }
 {
     let fixed = if e.deref == 1 {
