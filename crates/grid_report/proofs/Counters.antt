@@ -14,8 +14,7 @@ use Rattle.word.proofs.Concatenated.{parts-append, parts-one}
 use Rattle.rules.specs.Bus.{total}
 use Rattle.answer.specs.declared.Answer.{Answer}
 use Rattle.answer.specs.declared.Answer.the-variants.{Accepted, Size}
-use Rattle.label.specs.Label.{line, decimal, decimalIn}
-use Rattle.lines.specs.Line.{over, lineOf}
+use Rattle.lines.specs.Line.{line, decimal, decimalIn, over, lineOf}
 use Rattle.lines.proofs.Numbers.{line-most}
 use Rattle.grid_spec.specs.Report.{nameOf, lineAt, reportOf, reportAnswer, reportLength, reportedIn}
 use Rattle.grid_report.proofs.Texts.{name-most}

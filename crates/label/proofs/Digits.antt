@@ -1,16 +1,21 @@
--- Digits and their values undo one another; a number's digits grow by its last one.
-use Prim.Native.Nat.{ℕ, suc, _+_, _-_, _*_, _/_, _%_, _<_, _≤_}
-use mathlib.Core.Bool.{cond, _&&_, _||_}
+-- Digits and their values undo one another; a number's digits as a label has them and as a field has them.
+-- Assumes nothing.
+use Prim.Native.Nat.{ℕ, zero, suc, _+_, _-_, _*_, _/_, _%_, _^_, _<_, _≤_}
 use mathlib.Core.List.{List, [], _∷_, _++_}
-use mathlib.Core.Path.{_≡_, ap}
+use mathlib.Core.Path.{_≡_, refl, sym, ap, _∙_}
+use native.Mathlib.Nat.{pow-suc, div-lt-iff-lt-mul}
 use native.Mathlib.Omega.{arith}
-use lib.Dec.{leb, ltb}
-use borrow.Author.Tests.{lt-ltb, le-ltb, le-leb, lt-leb}
-use Rattle.label.specs.Label.{hexDigit, hexDigits, digit, decimalIn, decimal}
-use Rattle.label.specs.Reader.{hexValue, decimalValue}
-use Rattle.label.proofs.Order.{by-order}
+use lib.Dec.{lit<}
+use borrow.Author.Tests.{lt-ltb, le-ltb}
+use Rattle.lines.specs.Line.{digit, decimalIn, decimal}
+use Rattle.text_patterns.specs.Fields.{Digits, lowest, numeral}
+use Rattle.text_patterns.proofs.Order.{by-order}
+use Rattle.text_patterns.proofs.Digits.{lowest-last}
+use Rattle.text_patterns.proofs.Number.{numeral-small, numeral-large}
+use Rattle.text_fields.specs.Digit.{hexValue, decimalValue}
+use Rattle.label.specs.Label.{hexDigit, hexDigits}
 
-pub hex-value : (d : ℕ) → d < 16 → hexValue (hexDigit d) ≡ d
+hex-value : (d : ℕ) → d < 16 → hexValue (hexDigit d) ≡ d
 unfolding hexValue
 hex-value d h =
     by-order d 10
@@ -24,7 +29,7 @@ hex-value d h =
     )
     (omega arith))
 
-pub hex-digit : (b : ℕ) → hexValue b < 16 → hexDigit (hexValue b) ≡ b
+hex-digit : (b : ℕ) → hexValue b < 16 → hexDigit (hexValue b) ≡ b
 unfolding hexValue
 hex-digit b =
     by-order b 48 (λ a. rw (lt-ltb b 48 a) (λ h. omega arith))
@@ -36,60 +41,40 @@ hex-digit b =
     (λ h. rw (le-ltb (b - 87) 10 (omega arith)) (omega arith)))
     (λ e. rw (le-ltb b 48 a, le-ltb b 58 c, le-ltb b 97 d, le-ltb b 103 e) (λ h. omega arith)))))
 
--- a byte is a hex digit where it is in one of the two ranges
-pub hex-ranges : (b : ℕ) → (leb 48 b && ltb b 58) || (leb 97 b && ltb b 103) ≡ ltb (hexValue b) 16
-unfolding hexValue
-hex-ranges b =
-    by-order b 48 (λ a. rw (lt-ltb b 48 a, lt-leb 48 b a, lt-leb 97 b (omega arith)))
-    (λ a. by-order b 58 (λ c. rw (le-ltb b 48 a, le-leb 48 b a, lt-ltb b 58 c, lt-ltb (b - 48) 16 (omega arith)))
-    (λ c. by-order b 97 (λ d. rw (le-ltb b 48 a, le-leb 48 b a, le-ltb b 58 c, lt-ltb b 97 d, lt-leb 97 b d))
-    (λ d. by-order b 103
-    (λ e. rw (
-      le-ltb b 48 a,
-      le-leb 48 b a,
-      le-ltb b 58 c,
-      le-ltb b 97 d,
-      le-leb 97 b d,
-      lt-ltb b 103 e,
-      lt-ltb (b - 87) 16 (omega arith),
-    ))
-    (λ e. rw (le-ltb b 48 a, le-leb 48 b a, le-ltb b 58 c, le-ltb b 97 d, le-leb 97 b d, le-ltb b 103 e)))))
+pub hexes : Digits 16 hexDigit hexValue
+hexes = record { some = omega arith; value-byte = hex-value; byte-value = hex-digit }
 
--- its value is its low four bits, and 9 more for a letter
-pub hex-known : (b : ℕ) → hexValue b < 16 → b % 16 + 9 * (b / 64) ≡ hexValue b
-unfolding hexValue
-hex-known b =
-    by-order b 48 (λ a. rw (lt-ltb b 48 a) (λ h. omega arith))
-    (λ a. by-order b 58 (λ c. rw (le-ltb b 48 a, lt-ltb b 58 c) (λ h. omega arith))
-    (λ c. by-order b 97 (λ d. rw (le-ltb b 48 a, le-ltb b 58 c, lt-ltb b 97 d) (λ h. omega arith))
-    (λ d. by-order b 103 (λ e. rw (le-ltb b 48 a, le-ltb b 58 c, le-ltb b 97 d, lt-ltb b 103 e) (λ h. omega arith))
-    (λ e. rw (le-ltb b 48 a, le-ltb b 58 c, le-ltb b 97 d, le-ltb b 103 e) (λ h. omega arith)))))
-
-pub digit-value : (d : ℕ) → d < 10 → decimalValue (digit d) ≡ d
+digit-value : (d : ℕ) → d < 10 → decimalValue (digit d) ≡ d
 unfolding decimalValue
 digit-value d h = rw (le-ltb (48 + d) 48 (omega arith), lt-ltb (48 + d) 58 (omega arith)) (omega arith)
 
-pub value-digit : (b : ℕ) → decimalValue b < 10 → digit (decimalValue b) ≡ b
+value-digit : (b : ℕ) → decimalValue b < 10 → digit (decimalValue b) ≡ b
 unfolding decimalValue
 value-digit b =
     by-order b 48 (λ a. rw (lt-ltb b 48 a) (λ h. omega arith))
     (λ a. by-order b 58 (λ c. rw (le-ltb b 48 a, lt-ltb b 58 c) (λ h. omega arith))
     (λ c. rw (le-ltb b 48 a, le-ltb b 58 c) (λ h. omega arith)))
 
-pub hex-more : (k x d : ℕ) → d < 16 → hexDigits (suc k) (16 * x + d) ≡ hexDigits k x ++ (hexDigit d ∷ [])
-unfolding hexDigits
-hex-more k x d h =
-    let q : (16 * x + d) / 16 ≡ x = omega arith in
-    let m : (16 * x + d) % 16 ≡ d = omega arith in
-    rw (q, m)
+pub tens : Digits 10 digit decimalValue
+tens = record { some = omega arith; value-byte = digit-value; byte-value = value-digit }
 
--- the digits read so far: none of 0
-unfoldable pub soFar : ℕ → List ℕ
-soFar x = cond (ltb x 1) [] (decimal x)
+-- the lowest digits, the last of them apart or the first
+pub hex-lowest : (k x : ℕ) → lowest 16 hexDigit k x ≡ hexDigits k x
+unfolding lowest hexDigits
+hex-lowest zero x = refl
+hex-lowest (suc k) x = lowest-last 16 hexDigit k x ∙ ap (λ (l : List ℕ). l ++ (hexDigit (x % 16) ∷ [])) (hex-lowest k (x / 16))
 
-pub soFar-some : (x : ℕ) → 1 ≤ x → soFar x ≡ decimal x
-unfolding soFar
-soFar-some x h = rw (le-ltb x 1 h)
+-- a decimal of enough digits is the number's
+decimal-by : (k x : ℕ) → x < 10 ^ suc k → numeral digit x ≡ decimalIn (suc k) x
+unfolding decimalIn
+decimal-by zero x h = let small : x < 10 = omega arith in numeral-small digit x small ∙ rw (lt-ltb x 10 small)
+decimal-by (suc k) x h =
+    by-order x 10 (λ a. numeral-small digit x a ∙ rw (lt-ltb x 10 a))
+    (λ a. numeral-large digit x a
+    ∙ rw (le-ltb x 10 a) (ap (λ (l : List ℕ). l ++ (digit (x % 10) ∷ [])) (decimal-by k (x / 10) (div-lt-iff-lt-mul (lit< tt) .1 (rw (pow-suc 10 (suc k)) at h)))))
+
+pub decimal-is : (x : ℕ) → x < 2 ^ 64 → numeral digit x ≡ decimal x
+decimal-is x h = decimal-by 19 x (omega arith)
 
 -- numbers of one, two and three digits
 pub one-digit : (x : ℕ) → x < 10 → decimal x ≡ digit x ∷ []
@@ -105,15 +90,3 @@ unfolding decimalIn
 three-digits x l u =
     let e : x / 100 ≡ x / 10 / 10 = omega arith in
     rw (le-ltb x 10 (omega arith), le-ltb (x / 10) 10 (omega arith), lt-ltb (x / 10 / 10) 10 (omega arith), e)
-
--- a number's decimal is that of its tens, then its last digit
-pub decimal-last : (y : ℕ) → 1 ≤ y → y < 125 → soFar y ≡ soFar (y / 10) ++ (digit (y % 10) ∷ [])
-unfolding soFar
-decimal-last y l u =
-    by-order y 10
-    (λ a. rw (le-ltb y 1 l, one-digit y a, lt-ltb (y / 10) 1 (omega arith)) (ap (λ (z : ℕ). digit z ∷ []) (omega arith)))
-    (λ a. by-order y 100
-    (λ b. rw (le-ltb y 1 l, two-digits y a b, le-ltb (y / 10) 1 (omega arith), one-digit (y / 10) (omega arith)))
-    (λ b.
-    let e : y / 100 ≡ y / 10 / 10 = omega arith in
-    rw (le-ltb y 1 l, three-digits y b (omega arith), le-ltb (y / 10) 1 (omega arith), two-digits (y / 10) (omega arith) (omega arith), e)))

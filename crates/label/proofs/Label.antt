@@ -1,80 +1,48 @@
 -- The theorems on labels: a recipe and its label determine one another, and the reader's promise has one answer.
+-- Assumes nothing.
 use Prim.Native.Nat.{ℕ, _≤_}
-use mathlib.Core.List.{List}
-use mathlib.Core.Logic.{_⊎_, inl, inr}
+use mathlib.Core.Bool.{true, false}
+use mathlib.Core.List.{List, [], _∷_}
+use mathlib.Core.Logic.{inl, inr}
 use mathlib.Core.Path.{_≡_, refl, sym, _∙_, ap, subst}
-use native.Mathlib.Nat.{le-antisymm}
 use native.Mathlib.Omega.{arith}
 use lib.ListN.{length, take, drop}
 use lib.Seq.{take-append-seam}
 use Rattle.answer.specs.Determined.{Determined, equations}
 use Rattle.answer.specs.declared.Answer.the-variants.{Accepted, Label}
+use Rattle.text_patterns.specs.Pattern.{Parsed, got, left, parse, Spells}
+use Rattle.text_patterns.specs.Place.{Place}
+use Rattle.text_patterns.proofs.Law.{unique}
+use Rattle.text_patterns.proofs.Patterns.{spells-one}
+use Rattle.text_patterns.proofs.Runs.{parse-owed, ParseOwed}
 use Rattle.label.specs.declared.Recipe.{Recipe}
 use Rattle.label.specs.declared.Reading.{Reading}
 use Rattle.label.specs.declared.Written.{Written}
 use Rattle.label.specs.Writing.{written, buffered}
-use Rattle.label.specs.Label.{InRange, labelOf, hexDigits, decimalIn}
-use Rattle.label.specs.Reading.{Place, Reads, shared}
-use Rattle.label.specs.Reader.{
-  hexValue,
-  decimalValue,
-  nextStep,
-  nextFixed,
-  nextSeed,
-  nextTens,
-  nextUnits,
-  nextN,
-  readFrom,
-  refusedAt,
-}
-use Rattle.label.proofs.Moved.{state}
-use Rattle.label.proofs.Fits.{fits-start}
-use Rattle.label.proofs.Leads.{Leads, leads-one}
+use Rattle.label.specs.Label.{InRange, labelOf}
+use Rattle.label.specs.Reading.{Valid, Reads}
+use Rattle.label.specs.Reader.{label, refusedAt}
+use Rattle.label.proofs.Labels.{spelling-label}
 use Rattle.label.proofs.Writing.{enough}
-use Rattle.label.proofs.Near.{near, Taken, Left}
-use Rattle.label.proofs.Sound.{sound}
-use Rattle.label.proofs.Complete.{complete}
 
--- two recipes with one label are one recipe
+-- two recipes with one label are one recipe, of one version
 pub label-injective : (r s : Recipe) → InRange r → InRange s → labelOf r ≡ labelOf s → r ≡ s
 label-injective r s hr hs e =
-    leads-one (state 0 0 0 0) (labelOf s) r s
-    (subst (λ (w : List ℕ). Leads (state 0 0 0 0) w r) e (complete r hr))
-    (complete s hs)
+    spells-one (labelOf s) label r s
+    (subst (λ (w : List ℕ). Spells label w r) e (spelling-label .complete r hr))
+    (spelling-label .complete s hs)
 
--- a text has one place
-pub place-unique : (text : List ℕ) (j k : ℕ) → Place text j → Place text k → j ≡ k
-place-unique text j k p q =
-    le-antisymm (subst (λ (x : ℕ). x ≤ k) (p .attained .2) (q .most (p .attained .0) (p .attained .1)))
-    (subst (λ (x : ℕ). x ≤ j) (q .attained .2) (p .most (q .attained .0) (q .attained .1)))
-
--- the definition that the reader follows keeps the reader's promise
-pub reading-holds : (text : List ℕ) → Reads text (readFrom (state 0 0 0 0) 0 text)
-reading-holds text = go (readFrom (state 0 0 0 0) 0 text) (near text (state 0 0 0 0) 0 fits-start)
+-- each text has a reading: the pattern's
+pub reading-some : (text : List ℕ) → (R : Reading) × Reads text R
+reading-some text = go (parse label text) (parse-owed spelling-label text)
   where
-    go : (R : Reading) → Taken (state 0 0 0 0) text R ⊎ Left (state 0 0 0 0) 0 text R → Reads text R
-    go R (inl t) =
-        let s = sound (t .recipe) text (t .leads) in
-        inl (record {
-          answer = ap (λ (x : Reading). x .answer) (t .is);
-          range = subst (λ (x : Reading). InRange (x .recipe)) (sym (t .is)) (s .0);
-          label = ap (λ (x : Reading). labelOf (x .recipe)) (t .is) ∙ s .1;
-        })
-    go R (inr f) =
-        inr (record {
-          place = f .k;
-          answer = ap (λ (x : Reading). x .answer) (f .is) ∙ ap Label (omega arith);
-          invalid = λ v. f .none (v .0) (subst (λ (w : List ℕ). Leads (state 0 0 0 0) w (v .0)) (v .2) (complete (v .0) (v .1)));
-          nearest =
-              record {
-                attained =
-                    let a = f .attained in
-                    let s = sound (a .1) (a .0) (a .2) in
-                    (a .1, s .0, ap (λ (w : List ℕ). shared w text) (s .1) ∙ a .3);
-                most = λ r h. f .most (labelOf r) r (complete r h);
-              };
-          recipe = ap (λ (x : Reading). x .recipe) (f .is);
-        })
+    refuses : (k : ℕ) → (Valid text → ⊥) × Place Valid text k → (R : Reading) × Reads text R
+    refuses k o = (refusedAt k, inr (record { place = k; answer = refl; invalid = o .0; nearest = o .1; recipe = refl }))
+
+    go : (p : Parsed Recipe) → ParseOwed InRange labelOf text p → (R : Reading) × Reads text R
+    go (got r []) o = (record { answer = Accepted; recipe = r }, inl (record { answer = refl; range = o .0; label = o .1 }))
+    go (got r (b ∷ t)) o = refuses _ o
+    go (left t) o = refuses _ o
 
 -- no two readings keep the promise
 pub reading-determined : (text : List ℕ) → Determined (Reads text)
@@ -84,7 +52,7 @@ reading-determined text r s (inl a) (inl b) =
 reading-determined text r s (inl a) (inr b) = absurd (b .invalid (r .recipe, a .range, a .label))
 reading-determined text r s (inr a) (inl b) = absurd (a .invalid (s .recipe, b .range, b .label))
 reading-determined text r s (inr a) (inr b) =
-    let e = place-unique text (a .place) (b .place) (a .nearest) (b .nearest) in
+    let e = unique (a .place) (b .place) (a .nearest) (b .nearest) in
     λ i. record { answer = (a .answer ∙ (ap Label e ∙ sym (b .answer))) i; recipe = (a .recipe ∙ sym (b .recipe)) i }
 
 -- a recipe's label reads as that recipe, all 64 bits of its seed
@@ -107,11 +75,11 @@ pub one-text : (t u : List ℕ) (R S : Reading) → Reads t R → Reads u S
 one-text t u R S p q a b e = reads-label t R p a .1 ∙ (ap labelOf e ∙ sym (reads-label u S q b .1))
 
 -- a refused text's place: a valid label shares that many bytes with it, and none shares more
-pub refused-place : (text : List ℕ) (R : Reading) (k : ℕ) → Reads text R → R .answer ≡ Label k → Place text k
+pub refused-place : (text : List ℕ) (R : Reading) (k : ℕ) → Reads text R → R .answer ≡ Label k → Place Valid text k
 refused-place text R k (inl a) e = let z : _≡_ {A = ℕ} 0 1 = cc (e, a .answer) in absurd (omega arith)
 refused-place text R k (inr n) e =
     let i : n .place ≡ k = cc (e, n .answer) in
-    subst (Place text) i (n .nearest)
+    subst (Place Valid text) i (n .nearest)
 
 -- what the writer wrote reads as the recipe
 pub write-then-read : (r : Recipe) (buffer : List ℕ) (R : Reading) → InRange r → length (labelOf r) ≤ length buffer
@@ -128,10 +96,3 @@ write-then-read r buffer R h room p =
 pub writing-determined : (r : Recipe) (buffer : List ℕ)
     → Determined (λ (x : Written × List ℕ). (x .0 ≡ written r (length buffer)) × (x .1 ≡ buffered r buffer))
 writing-determined r buffer = equations (written r (length buffer)) (buffered r buffer)
-
--- document 01's label with n = 125: 35 bytes are shared with n = 12 and n = 120 to 124
-pub example-refused : (R : Reading) → Reads (labelOf (record { seed = 0x12fffffff; m = 10; n = 125 })) R → R ≡ refusedAt 35
-unfolding labelOf hexDigits decimalIn readFrom nextStep nextFixed nextSeed nextTens nextUnits nextN hexValue decimalValue
-example-refused R p =
-    reading-determined (labelOf (record { seed = 0x12fffffff; m = 10; n = 125 })) R (refusedAt 35) p
-    (reading-holds (labelOf (record { seed = 0x12fffffff; m = 10; n = 125 })))

@@ -2,4 +2,3 @@ pub mod Label
 pub mod Reading
 pub mod Writing
 pub mod Reader
-pub mod Writer

@@ -1,13 +1,12 @@
--- Document 01, "Verdicts", row LABEL, and "Draws, recipe, label": what reading a text owes. Nothing here says how a
--- reader goes.
+-- Document 01, "Verdicts", row LABEL, and "Draws, recipe, label": what reading a text owes, against valid labels of
+-- either version. Nothing here says how a reader goes.
 -- Declared in src/: Answer (answer); Recipe, Reading (here).
-use Prim.Native.Nat.{ℕ, suc, _≤_}
-use mathlib.Core.Bool.{cond}
-use mathlib.Core.List.{List, [], _∷_}
+use Prim.Native.Nat.{ℕ}
+use mathlib.Core.List.{List}
 use mathlib.Core.Logic.{_⊎_}
 use mathlib.Core.Path.{_≡_}
-use lib.Dec.{eqb}
 use Rattle.answer.specs.declared.Answer.the-variants.{Accepted, Label}
+use Rattle.text_patterns.specs.Place.{Place}
 use Rattle.label.specs.declared.Recipe.{Recipe}
 use Rattle.label.specs.declared.Reading.{Reading}
 use Rattle.label.specs.Label.{InRange, labelOf}
@@ -15,17 +14,6 @@ use Rattle.label.specs.Label.{InRange, labelOf}
 -- a text is valid if it is the label of a recipe
 abbrev pub Valid : List ℕ → Type 0
 Valid text = (r : Recipe) × InRange r × (labelOf r ≡ text)
-
--- the length of the longest prefix that two texts share
-unfoldable pub shared : List ℕ → List ℕ → ℕ
-shared [] ys = 0
-shared (x ∷ xs) [] = 0
-shared (x ∷ xs) (y ∷ ys) = cond (eqb x y) (suc (shared xs ys)) 0
-
--- the longest prefix that a text shares with any valid label: one shares that much, and none shares more
-pub record Place (text : List ℕ) (k : ℕ) : Type 0 where
-  pub attained : (r : Recipe) × InRange r × (shared (labelOf r) text ≡ k)
-  pub most : (r : Recipe) → InRange r → shared (labelOf r) text ≤ k
 
 -- the recipe whose label the text is
 pub record Accepts (text : List ℕ) (r : Reading) : Type 0 where
@@ -38,8 +26,8 @@ pub record Refuses (text : List ℕ) (r : Reading) : Type 0 where
   pub place : ℕ
   pub answer : r .answer ≡ Label place
   pub invalid : Valid text → ⊥
-  pub nearest : Place text place
-  pub recipe : r .recipe ≡ record { seed = 0; m = 0; n = 0 }
+  pub nearest : Place Valid text place
+  pub recipe : r .recipe ≡ record { version = 0; seed = 0; m = 0; n = 0 }
 
 -- the reader's promise
 abbrev pub Reads : List ℕ → Reading → Type 0

@@ -1,6 +1,4 @@
-// Recipes and their labels: document 01, "Draws, recipe, label".
-mod digit;
-mod head;
+// Recipes and their labels: documents 01, "Draws, recipe, label", and 02, M-103.
 mod reader;
 mod writer;
 
@@ -11,6 +9,7 @@ pub use writer::write_label;
 
 // What the maker makes a program and a memory of.
 pub struct Recipe {
+    pub version: u32,
     pub seed: u64,
     pub m: u32,
     pub n: u32,

@@ -1,85 +1,50 @@
-// The label writer: range, room, then byte by byte.
+// The label writer: range, room, then line by line.
 use crate::Recipe;
 use crate::Written;
-use crate::digit;
 use answer::Answer;
+use lines::put;
+use lines::put_line;
 ghost use mathlib.Core.Bool.{true};
 ghost use mathlib.Core.List.{_++_};
 ghost use mathlib.Core.Path.{_≡_};
-ghost use Prim.Native.Nat.{_*_, _/_, _%_, _^_, _≤_, _<_};
-ghost use lib.ListN.{length, getD, drop};
-ghost use Rattle.label.specs.Label.{hexDigit, ranged, labelOf};
-ghost use Rattle.label.specs.Writer.{tailOf};
+ghost use Prim.Native.Nat.{_+_, _%_, _≤_};
+ghost use lib.ListN.{length, drop};
+ghost use Rattle.lines.specs.Line.{line, over};
+ghost use Rattle.label.specs.Label.{hexDigit, hexDigits, seedText, ranged, labelOf};
 ghost use Rattle.label.specs.Writing.{written, buffered};
 
 pub fn in_range(recipe: Recipe) -> bool
     ensures { λ r. ⌜ r ≡ ranged recipe ⌝ }
 {
-    ((10 <= recipe.m) & (recipe.m <= 29)) & ((1 <= recipe.n) & (recipe.n <= 124))
+    ((1 <= recipe.version) & (recipe.version <= 2))
+        & ((10 <= recipe.m) & (recipe.m <= 29))
+        & ((1 <= recipe.n) & (recipe.n <= 124))
 }
 
-// The digits of n and LF, then 0.
-fn tail(n: u32) -> [u8; 4]
-    requires { ⌜ n ≤ 124 ⌝ }
-    ensures { λ r. ⌜ r ≡ tailOf n ⌝ }
+// The hex digit of a number's lowest four bits.
+fn hex_digit(number: u64) -> u8
+    ensures { λ r. ⌜ r ≡ hexDigit (number % 16) ⌝ }
 {
-    let b = n as u8;
-    let units = 48 + b % 10;
-    if b < 10 {
-        return [units, 10, 0, 0];
-    }
-    let tens = 48 + b / 10 % 10;
-    if b < 100 {
-        return [tens, units, 10, 0];
-    }
-    [48 + b / 100, tens, units, 10]
-}
-
-// The value of seed's hex digit that has k digits after it, out of all 64 bits.
-fn nibble(seed: u64, k: u32) -> u64
-    requires { ⌜ k < 16 ⌝ }
-    ensures { λ r. ⌜ (r ≡ seed / 2 ^ (4 * k) % 16) × (r < 16) ⌝ }
-{
-    (seed >> (4 * k)) % 16
-}
-
-// That digit.
-fn hex_digit(seed: u64, k: u32) -> u8
-    requires { ⌜ k < 16 ⌝ }
-    ensures { λ r. ⌜ r ≡ hexDigit (seed / 2 ^ (4 * k) % 16) ⌝ }
-{
-    let d = nibble(seed, k) as u8;
+    let d = (number % 16) as u8;
     if d < 10 {
         return 48 + d;
     }
     87 + d
 }
 
-// A byte of the label; 0 past its end.
-fn label_byte(recipe: Recipe, at: u32) -> u8
-    requires { ⌜ (ranged recipe ≡ true) × (at < 37) ⌝ }
-    ensures { λ r. ⌜ r ≡ getD (labelOf recipe) at 0 ⌝ }
+// Sixteen hex digits, out of all 64 bits, and LF; from the last to the first.
+fn hex_line(seed: u64) -> [u8; 17]
+    ensures { λ r. ⌜ r ≡ line (hexDigits 16 seed) ⌝ }
 {
-    if at < 9 {
-        return digit::form(at);
+    let mut bytes = [10u8; 17];
+    let mut i: usize = 16;
+    let mut rest = seed;
+    while 0 < i {
+        i -= 1;
+        bytes[i] = hex_digit(rest);
+        rest /= 16;
     }
-    if at < 25 {
-        return hex_digit(recipe.seed, 24 - at);
-    }
-    if at < 28 {
-        return digit::form(at);
-    }
-    if at < 29 {
-        return 48 + (recipe.m / 10) as u8;
-    }
-    if at < 30 {
-        return 48 + (recipe.m % 10) as u8;
-    }
-    if at < 33 {
-        return digit::form(at);
-    }
-    let last = tail(recipe.n);
-    last[(at - 33) as usize]
+    bytes
 }
 
 fn label_length(recipe: Recipe) -> u32
@@ -95,17 +60,28 @@ fn label_length(recipe: Recipe) -> u32
     37
 }
 
-// The bytes of the label, one after the other.
-fn fill(recipe: Recipe, size: u32, buffer: &mut [u8])
-    requires { ⌜ (ranged recipe ≡ true) × (size ≡ length (labelOf recipe)) × (size ≤ 37) × (size ≤ length (now buffer)) ⌝ }
-    ensures { λ _. ⌜ now (buffer .exit) ≡ labelOf recipe ++ drop size (now (buffer .entry)) ⌝ }
+// The seed's line from a byte of the buffer on, and where it ends.
+fn put_seed(seed: u64, at: usize, out: &mut [u8]) -> usize
+    requires { ⌜ at + length (line (seedText ++ hexDigits 16 seed)) ≤ length (now out) ⌝ }
+    ensures { λ r. ⌜
+        (r ≡ at + length (line (seedText ++ hexDigits 16 seed)))
+        × (now (out .exit) ≡ over (now (out .entry)) at (line (seedText ++ hexDigits 16 seed)))
+        ⌝ }
 {
-    let mut i: u32 = 0;
-    while i < size {
-        let at = i as usize;
-        buffer[at] = label_byte(recipe, i);
-        i += 1;
-    }
+    let digits = hex_line(seed);
+    let middle = put(b"seed=", at, out);
+    put(&digits, middle, out)
+}
+
+// The four lines, each behind the one before it.
+fn fill(recipe: Recipe, buffer: &mut [u8])
+    requires { ⌜ length (labelOf recipe) ≤ length (now buffer) ⌝ }
+    ensures { λ _. ⌜ now (buffer .exit) ≡ labelOf recipe ++ drop (length (labelOf recipe)) (now (buffer .entry)) ⌝ }
+{
+    let at_seed = put_line(b"v=", recipe.version as u64, 0, buffer);
+    let at_m = put_seed(recipe.seed, at_seed, buffer);
+    let at_n = put_line(b"m=", recipe.m as u64, at_m, buffer);
+    put_line(b"n=", recipe.n as u64, at_n, buffer);
 }
 
 // The label at the start of the buffer; the bytes after it stay.
@@ -126,7 +102,7 @@ pub fn write_label(recipe: Recipe, buffer: &mut [u8]) -> Written
                 length: 0,
             };
         }
-        fill(recipe, size, &mut *buffer);
+        fill(recipe, buffer);
         return Written {
             answer: Answer::Accepted,
             length: size,

@@ -11,11 +11,10 @@ use borrow.Author.Tests.{lt-ltb, le-ltb}
 use lib.Dec.{ltb, lit<}
 use lib.ListN.{length, take, drop, set, length-append, length-drop}
 use lib.Seq.{set-split, drop-at, length-take-le, append-snoc, take-all}
-use Rattle.label.specs.Label.{digit, decimalIn, decimal, line}
-use Rattle.lines.specs.Line.{lineOf}
+use Rattle.lines.specs.Line.{digit, decimalIn, decimal, line, lineOf}
 
 -- a byte stored in front of those that stand
-stored : (bytes : List ℕ) (k x : ℕ) → k < length bytes → drop k (set bytes k x) ≡ x ∷ drop (suc k) bytes
+pub stored : (bytes : List ℕ) (k x : ℕ) → k < length bytes → drop k (set bytes k x) ≡ x ∷ drop (suc k) bytes
 stored bytes k x h =
     ap (drop k) (set-split bytes k x h) ∙ drop-at (take k bytes) (x ∷ drop (suc k) bytes) k (length-take-le k bytes (omega arith))
 

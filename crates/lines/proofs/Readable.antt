@@ -7,7 +7,7 @@ use mathlib.Core.Path.{_≡_, refl, sym, ap, _∙_}
 use native.Mathlib.Nat.{pow-suc, div-lt-iff-lt-mul}
 use native.Mathlib.Omega.{arith}
 use lib.Dec.{ltb, lit<}
-use Rattle.label.specs.Label.{digit, decimalIn, decimal}
+use Rattle.lines.specs.Line.{digit, decimalIn, decimal}
 
 -- the number that digits are read as, after others
 pub valueAfter : ℕ → List ℕ → ℕ

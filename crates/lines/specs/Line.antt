@@ -1,8 +1,25 @@
--- Document 01, "Draws, recipe, label": a printed line, a name and a number in decimal.
-use Prim.Native.Nat.{ℕ, _+_}
-use mathlib.Core.List.{List, _++_}
+-- Document 01, "Draws, recipe, label": a number in decimal, and a line of a name and such a number.
+use Prim.Native.Nat.{ℕ, zero, suc, _+_, _/_, _%_}
+use mathlib.Core.Bool.{cond}
+use mathlib.Core.List.{List, [], _∷_, _++_}
+use lib.Dec.{ltb}
 use lib.ListN.{length, take, drop}
-use Rattle.label.specs.Label.{line, decimal}
+
+abbrev pub digit : ℕ → ℕ
+digit d = 48 + d
+
+-- a number of at most k digits in decimal, with no leading zero
+unfoldable pub decimalIn : ℕ → ℕ → List ℕ
+decimalIn zero x = []
+decimalIn (suc k) x = cond (ltb x 10) (digit x ∷ []) (decimalIn k (x / 10) ++ (digit (x % 10) ∷ []))
+
+-- a 64-bit number has at most 20
+abbrev pub decimal : ℕ → List ℕ
+decimal x = decimalIn 20 x
+
+-- a line ends in LF
+abbrev pub line : List ℕ → List ℕ
+line w = w ++ (10 ∷ [])
 
 abbrev pub lineOf : List ℕ → ℕ → List ℕ
 lineOf name number = name ++ line (decimal number)

@@ -3,7 +3,7 @@ use crate::Digits;
 ghost use mathlib.Core.Path.{_≡_};
 ghost use Prim.Native.Nat.{_≤_};
 ghost use lib.ListN.{length, drop};
-ghost use Rattle.label.specs.Label.{decimal, line};
+ghost use Rattle.lines.specs.Line.{decimal, line};
 
 // The digits of a number and LF, from the last to the first.
 pub(crate) fn ended_digits(number: u64) -> Digits

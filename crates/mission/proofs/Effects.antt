@@ -53,7 +53,7 @@ module _ (r : Recipe) (buffer : List ℕ) where
   unfolding written buffered
   writer-keeps = writes (ranged r) (ltb (length buffer) (length (labelOf r))) (length (labelOf r)) _
 
-pub reader-zeroes : (text : List ℕ) (r : Reading) → Reads text r → IsRefusal (r .answer) → r .recipe ≡ record { seed = 0; m = 0; n = 0 }
+pub reader-zeroes : (text : List ℕ) (r : Reading) → Reads text r → IsRefusal (r .answer) → r .recipe ≡ record { version = 0; seed = 0; m = 0; n = 0 }
 reader-zeroes text r (inl a) h = absurd (omega (arith, ap (λ (x : Answer). numbersOf x .verdict) (a .answer)))
 reader-zeroes text r (inr n) h = n .recipe
 
@@ -65,9 +65,9 @@ module _ (text answer recipe : List ℕ) (x : ℕ × List ℕ × List ℕ) (call
   unfit-call : bothFit answer recipe ≡ false → (x .0 ≡ 13) × (x .1 ≡ answer) × (x .2 ≡ recipe)
   unfit-call e = (rw e at (call .verdict), rw e at (call .answered), rw e at (call .written))
 
-  pub reader-call-answer : (length answer ≡ 16 → ⊥) ⊎ (length recipe ≡ 16 → ⊥) → (x .0 ≡ 13) × (x .1 ≡ answer) × (x .2 ≡ recipe)
-  reader-call-answer (inl other) = unfit-call (unfit-left answer other _)
-  reader-call-answer (inr other) = unfit-call (unfit-right recipe other (eqb (length answer) 16))
+  pub reader-call-answer : (length answer ≡ 16 → ⊥) ⊎ (length recipe ≡ 20 → ⊥) → (x .0 ≡ 13) × (x .1 ≡ answer) × (x .2 ≡ recipe)
+  reader-call-answer (inl other) = unfit-call (unfit-left answer 16 other _)
+  reader-call-answer (inr other) = unfit-call (unfit-right recipe 20 other (eqb (length answer) 16))
 
   pub reader-call-keeps : 1 ≤ x .0 → x .2 ≡ recipe
   reader-call-keeps h =

@@ -3,25 +3,23 @@
 use mathlib.Core.Path.{_≡_, sym, ap, _∙_}
 use mathlib.Core.Logic.{inl, inr}
 use mathlib.Core.Bool.{true}
-use mathlib.Core.List.{List, [], _∷_}
-use Prim.Native.Nat.{ℕ, suc, _+_, _*_, _/_, _%_, _^_, _≤_, _<_}
+use mathlib.Core.List.{List}
+use Prim.Native.Nat.{ℕ, _+_, _*_, _/_, _%_, _^_, _<_}
 use native.Mathlib.Omega.{arith}
-use lib.Dec.{eqb}
 use lib.ListN.{length}
 use borrow.Author.Tests.{eq-eqb}
-use Rattle.word.proofs.Tests.{by-test}
 use Rattle.word.proofs.FourBytes.{read-bytes}
 use Rattle.rows.specs.Rows.{bytesOfWords, putRow}
 use Rattle.answer.specs.Verdicts.{numbersOf}
 use Rattle.answer.specs.declared.Answer.{Answer}
 use Rattle.answer.specs.declared.Answer.the-variants.{Accepted}
 use Rattle.label.specs.Label.{InRange, labelOf}
-use Rattle.label.specs.Reading.{Valid, Reads, Place, shared}
+use Rattle.label.specs.Reading.{Valid, Reads}
 use Rattle.label.specs.declared.Recipe.{Recipe}
 use Rattle.label.specs.declared.Reading.{Reading}
 use Rattle.label.proofs.Label.{reads-label}
-use Rattle.label.proofs.Range.{m-high, n-high}
-use Rattle.program_build.proofs.Cut.{label-most}
+use Rattle.label.proofs.Length.{place-most}
+use Rattle.label.proofs.Range.{version-high, m-high, n-high}
 use Rattle.judge_spec.proofs.Narrow.{Narrow}
 use Rattle.reply.specs.Reply.{answerWords}
 use Rattle.uisnabar.specs.Calls.{bothFit, recipeWords}
@@ -30,25 +28,12 @@ use Rattle.mission.specs.Driver.{numbersIn, recipeIn, DriverReadsLabel}
 use Rattle.answer.proofs.Named.{verdict-zero}
 use Rattle.mission.proofs.Driver.{numbers-back}
 
--- what is shared with a label is no longer than it
-shared-most : (xs ys : List ℕ) → shared xs ys ≤ length xs
-unfolding shared
-shared-most [] ys = omega arith
-shared-most (x ∷ xs) [] = omega arith
-shared-most (x ∷ xs) (y ∷ ys) =
-    by-test (λ (n : ℕ). n ≤ suc (length xs)) (eqb x y) (λ e. omega (arith, shared-most xs ys)) (λ e. omega arith)
-
-place-small : {text : List ℕ} {k : ℕ} → Place text k → k < 2 ^ 32
-place-small {text} p =
-    let (r, range, e) = p .attained in
-    omega (arith, shared-most (labelOf r) text, label-most r (range .ranges))
-
 reading-narrow : (text : List ℕ) (r : Reading) → Reads text r → Narrow (numbersOf (r .answer))
 reading-narrow text r (inl a) = rw (a .answer) (record { verdict = omega arith; part = omega arith; place = omega arith; rule = omega arith })
 reading-narrow text r (inr n) =
-    rw (n .answer) (record { verdict = omega arith; part = omega arith; place = place-small (n .nearest); rule = omega arith })
+    rw (n .answer) (record { verdict = omega arith; part = omega arith; place = omega (arith, place-most (n .nearest)); rule = omega arith })
 
--- a recipe in range reads back from its 16 bytes
+-- a recipe in range reads back from its 20 bytes
 recipe-back : (r : Recipe) → InRange r → recipeIn (bytesOfWords (recipeWords r)) ≡ r
 unfolding bytesOfWords
 recipe-back r range =
@@ -59,15 +44,16 @@ recipe-back r range =
       seed = whole-seed (read-bytes (r .seed % 2 ^ 32) low) (read-bytes (r .seed / 2 ^ 32) high) i;
       m = read-bytes (r .m) (omega (arith, m-high r (range .ranges))) i;
       n = read-bytes (r .n) (omega (arith, n-high r (range .ranges))) i;
+      version = read-bytes (r .version) (omega (arith, version-high r (range .ranges))) i;
     }
   where
     whole-seed : {a b : ℕ} → a ≡ r .seed % 2 ^ 32 → b ≡ r .seed / 2 ^ 32 → a + 2 ^ 32 * b ≡ r .seed
     whole-seed e f = omega arith
 
-module _ (text answer recipe : List ℕ) (x : ℕ × List ℕ × List ℕ) (answer-sized : length answer ≡ 16) (recipe-sized : length recipe ≡ 16)
+module _ (text answer recipe : List ℕ) (x : ℕ × List ℕ × List ℕ) (answer-sized : length answer ≡ 16) (recipe-sized : length recipe ≡ 20)
     (call : ReaderCall text answer recipe x) where
   fit : bothFit answer recipe ≡ true
-  fit = rw (eq-eqb (length answer) 16 answer-sized, eq-eqb (length recipe) 16 recipe-sized)
+  fit = rw (eq-eqb (length answer) 16 answer-sized, eq-eqb (length recipe) 20 recipe-sized)
 
   told : x .0 ≡ numbersOf (call .reading .answer) .verdict
   told = rw fit at (call .verdict)
@@ -81,7 +67,7 @@ module _ (text answer recipe : List ℕ) (x : ℕ × List ℕ × List ℕ) (answ
 
   written : x .0 ≡ 0 → x .2 ≡ bytesOfWords (recipeWords (call .reading .recipe))
   unfolding putRow
-  written e = rw (eq-eqb (length recipe) 16 recipe-sized) at (rw (fit, is-accepted e) at (call .written))
+  written e = rw (eq-eqb (length recipe) 20 recipe-sized) at (rw (fit, is-accepted e) at (call .written))
 
   -- a valid text is read, not refused
   valid-zero : Valid text → Reads text (call .reading) → x .0 ≡ 0

@@ -2,7 +2,7 @@
 -- Assumes nothing.
 use mathlib.Core.Path.{sym}
 use Rattle.answer.specs.Determined.{equations}
-use Rattle.label.proofs.Label.{reading-holds, reading-determined, writing-determined, label-reads, reads-label, refused-place}
+use Rattle.label.proofs.Label.{reading-some, reading-determined, writing-determined, label-reads, reads-label, refused-place}
 use Rattle.label.proofs.Writing.{enough}
 use Rattle.maker.proofs.Determined.{make-determined}
 use Rattle.tabler.proofs.Determined.{table-determined}
@@ -38,7 +38,7 @@ demand-one =
           let e = call-determined a b in
           λ i. (e .0 i, e .1 i, e .2 i);
       program-one = output-determined;
-      reader-some = λ text. (_, reading-holds text);
+      reader-some = reading-some;
       one-number = one-number;
       tabler-keeps = refusal-keeps;
       tabler-zeroes = refusal-zeroes;

@@ -1,5 +1,5 @@
 -- The mission's second demand at the C boundary; document 01, "Draws, recipe, label", its last paragraph: what a driver
--- reads after a call of `uisnabar_judge` or `uisnabar_label` whose buffers are of 16 bytes.
+-- reads after a call of `uisnabar_judge` or `uisnabar_label` whose answer has 16 bytes and whose recipe has 20.
 -- Declared in src/: Numbers, Answer (answer); Recipe, Reading (label).
 use mathlib.Core.Path.{_≡_}
 use mathlib.Core.Logic.{_↔_}
@@ -30,9 +30,15 @@ pub record DriverReads (q : Parts) (number : ℕ) (buffer : List ℕ) : Type 0 w
   pub verdict : number ≡ numbersOf answer .verdict
   pub satisfies : (number ≡ 0) ↔ Satisfies q
 
--- the recipe in 16 bytes: seed (8 bytes), m and n (4 each), little-endian
+-- the recipe in 20 bytes: seed (8 bytes), m, n and version (4 each), little-endian
 abbrev pub recipeIn : List ℕ → Recipe
-recipeIn buffer = record { seed = wordAt buffer 0 + 2 ^ 32 * wordAt buffer 4; m = wordAt buffer 8; n = wordAt buffer 12 }
+recipeIn buffer =
+    record {
+      seed = wordAt buffer 0 + 2 ^ 32 * wordAt buffer 4;
+      m = wordAt buffer 8;
+      n = wordAt buffer 12;
+      version = wordAt buffer 16;
+    }
 
 -- the number returned and both buffers after the call tell the text's one reading: 0 exactly where the text is a valid
 -- label, and then the recipe whose label it is, all 64 bits of its seed

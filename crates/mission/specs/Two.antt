@@ -3,7 +3,7 @@
 -- as that recipe, all 64 bits of the seed included, and no other text reads as it."
 -- Parts are the four parts as bytes, and the start; `judgeOf` is the answer that `judge::judge` promises. `Satisfies`
 -- (rules) knows neither machine nor judge; `Says` (judge_spec) says for each verdict what document 01's table has: the
--- first failure in its order, by part, row and rule. A recipe in range is a seed below 2^64, m and n; `labelOf` is its
+-- first failure in its order, by part, row and rule. A recipe in range is a version, a seed below 2^64, m and n; `labelOf` is its
 -- label byte for byte, and `Reads` what `label::read_label` promises.
 -- Declared in src/: Answer (answer); Recipe, Reading (label).
 use mathlib.Core.Path.{_≡_}
@@ -14,7 +14,8 @@ use lib.ListN.{length, drop}
 use Rattle.answer.specs.declared.Answer.{Answer}
 use Rattle.answer.specs.declared.Answer.the-variants.{Accepted}
 use Rattle.label.specs.Label.{InRange, labelOf}
-use Rattle.label.specs.Reading.{Reads, Place}
+use Rattle.text_patterns.specs.Place.{Place}
+use Rattle.label.specs.Reading.{Valid, Reads}
 use Rattle.label.specs.Writing.{written, buffered}
 use Rattle.label.specs.declared.Recipe.{Recipe}
 use Rattle.label.specs.declared.Reading.{Reading}
@@ -34,7 +35,7 @@ pub record DemandTwo : Type 0 where
   -- and so for a driver in C, from what `uisnabar_judge` promises
   pub driver-reads : (q : Parts) (buffer : List ℕ) (x : ℕ × List ℕ) → length buffer ≡ 16 → JudgeCall q buffer x → DriverReads q (x .0) (x .1)
   -- a driver reads a label as the reader does, from what `uisnabar_label` promises
-  pub driver-reads-label : (text answer recipe : List ℕ) (x : ℕ × List ℕ × List ℕ) → length answer ≡ 16 → length recipe ≡ 16
+  pub driver-reads-label : (text answer recipe : List ℕ) (x : ℕ × List ℕ × List ℕ) → length answer ≡ 16 → length recipe ≡ 20
       → ReaderCall text answer recipe x
       → DriverReadsLabel text (x .0) (x .1) (x .2)
   -- a recipe is written as one label, and the bytes after it keep what they held
@@ -45,5 +46,5 @@ pub record DemandTwo : Type 0 where
   pub label-reads-back : (r : Recipe) → InRange r → (x : Reading) → Reads (labelOf r) x → (x .answer ≡ Accepted) × (x .recipe ≡ r)
   -- and no other text reads as it
   pub no-other-text : (text : List ℕ) (x : Reading) → Reads text x → x .answer ≡ Accepted → InRange (x .recipe) × (text ≡ labelOf (x .recipe))
-  -- a refused text's place is the longest prefix it shares with any valid label
-  pub label-place : (text : List ℕ) (x : Reading) (place : ℕ) → Reads text x → x .answer ≡ Label place → Place text place
+  -- a refused text's place is the longest prefix it shares with any valid label, of either version
+  pub label-place : (text : List ℕ) (x : Reading) (place : ℕ) → Reads text x → x .answer ≡ Label place → Place Valid text place

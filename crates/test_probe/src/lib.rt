@@ -10,6 +10,17 @@ ghost use Rattle.reply.specs.Reply.{returned, replied};
 ghost use Rattle.tabler_spec.specs.Tabled.{tableOf, execAfter, extAfter};
 ghost use Rattle.test_probe.specs.Probes.{recipeOf};
 
+fn recipe(version: u32, seed: u64, m: u32, n: u32) -> Recipe
+    ensures { λ r. ⌜ r ≡ recipeOf version seed m n ⌝ }
+{
+    Recipe {
+        version,
+        seed,
+        m,
+        n,
+    }
+}
+
 // The tabler; its answer is told where the answer's buffer is 16 bytes.
 #[no_mangle]
 pub extern "C" fn probe_table(
@@ -33,6 +44,7 @@ pub extern "C" fn probe_table(
 // The maker.
 #[no_mangle]
 pub extern "C" fn probe_make(
+    version: u32,
     seed: u64,
     m: u32,
     n: u32,
@@ -40,23 +52,30 @@ pub extern "C" fn probe_make(
     memory: &mut [u8],
     answer: &mut [u8],
 ) -> u32
-    ensures { λ r. ⌜ r ≡ returned (makeOf (recipeOf seed m n) (length (now (program .entry))) (length (now (memory .entry)))) (now (answer .entry)) ⌝ }
-    ensures { λ _. ⌜ now (answer .exit) ≡ replied (makeOf (recipeOf seed m n) (length (now (program .entry))) (length (now (memory .entry)))) (now (answer .entry)) ⌝ }
-    ensures { λ _. ⌜ now (program .exit) ≡ programAfter (recipeOf seed m n) (now (program .entry)) (now (memory .entry)) ⌝ }
-    ensures { λ _. ⌜ now (memory .exit) ≡ memoryAfter (recipeOf seed m n) (now (program .entry)) (now (memory .entry)) ⌝ }
+    ensures { λ r. ⌜ r ≡ returned (makeOf (recipeOf version seed m n) (length (now (program .entry))) (length (now (memory .entry)))) (now (answer .entry)) ⌝ }
+    ensures { λ _. ⌜ now (answer .exit) ≡ replied (makeOf (recipeOf version seed m n) (length (now (program .entry))) (length (now (memory .entry)))) (now (answer .entry)) ⌝ }
+    ensures { λ _. ⌜ now (program .exit) ≡ programAfter (recipeOf version seed m n) (now (program .entry)) (now (memory .entry)) ⌝ }
+    ensures { λ _. ⌜ now (memory .exit) ≡ memoryAfter (recipeOf version seed m n) (now (program .entry)) (now (memory .entry)) ⌝ }
 {
-    let a = maker::make(Recipe { seed, m, n }, program, memory);
+    let a = maker::make(recipe(version, seed, m, n), program, memory);
     reply(answer, a)
 }
 
 // The label writer: the length written is returned, and the answer told as above.
 #[no_mangle]
-pub extern "C" fn probe_write(seed: u64, m: u32, n: u32, text: &mut [u8], answer: &mut [u8]) -> u32
-    ensures { λ r. ⌜ r ≡ written (recipeOf seed m n) (length (now (text .entry))) .length ⌝ }
-    ensures { λ _. ⌜ now (answer .exit) ≡ replied (written (recipeOf seed m n) (length (now (text .entry))) .answer) (now (answer .entry)) ⌝ }
-    ensures { λ _. ⌜ now (text .exit) ≡ buffered (recipeOf seed m n) (now (text .entry)) ⌝ }
+pub extern "C" fn probe_write(
+    version: u32,
+    seed: u64,
+    m: u32,
+    n: u32,
+    text: &mut [u8],
+    answer: &mut [u8],
+) -> u32
+    ensures { λ r. ⌜ r ≡ written (recipeOf version seed m n) (length (now (text .entry))) .length ⌝ }
+    ensures { λ _. ⌜ now (answer .exit) ≡ replied (written (recipeOf version seed m n) (length (now (text .entry))) .answer) (now (answer .entry)) ⌝ }
+    ensures { λ _. ⌜ now (text .exit) ≡ buffered (recipeOf version seed m n) (now (text .entry)) ⌝ }
 {
-    let done = write_label(Recipe { seed, m, n }, text);
+    let done = write_label(recipe(version, seed, m, n), text);
     let a = done.answer;
     reply(answer, a);
     done.length

@@ -14,12 +14,12 @@ use Rattle.label.specs.Reading.{Reads}
 use Rattle.reply.specs.Reply.{verdictOf, returned, replied}
 use Rattle.uisnabar.specs.Calls.{recipeWords, bothFit, held, LabelCall}
 
-module _ (buffer : List ℕ) (other : length buffer ≡ 16 → ⊥) where
-  pub unfit-left : (b : Bool) → eqb (length buffer) 16 && b ≡ false
-  unfit-left b = rw (ne-eqb (length buffer) 16 other)
+module _ (buffer : List ℕ) (size : ℕ) (other : length buffer ≡ size → ⊥) where
+  pub unfit-left : (b : Bool) → eqb (length buffer) size && b ≡ false
+  unfit-left b = rw (ne-eqb (length buffer) size other)
 
-  pub unfit-right : (b : Bool) → b && eqb (length buffer) 16 ≡ false
-  unfit-right true = rw (ne-eqb (length buffer) 16 other)
+  pub unfit-right : (b : Bool) → b && eqb (length buffer) size ≡ false
+  unfit-right true = rw (ne-eqb (length buffer) size other)
   unfit-right false = refl
 
 module _ (text answer recipe : List ℕ) (s : Reading) (reads : Reads text s) where
@@ -27,15 +27,15 @@ module _ (text answer recipe : List ℕ) (s : Reading) (reads : Reads text s) wh
       → LabelCall text answer recipe answerAfter recipe r
   unfit answerAfter r e told kept = record { reading = s; reads = reads; verdict = rw e told; answered = rw e kept; written = rw e }
 
-  pub fit : (answerAfter recipeAfter : List ℕ) (r : ℕ) → length answer ≡ 16 → length recipe ≡ 16
+  pub fit : (answerAfter recipeAfter : List ℕ) (r : ℕ) → length answer ≡ 16 → length recipe ≡ 20
       → r ≡ returned (s .answer) answer
       → answerAfter ≡ replied (s .answer) answer
-      → recipeAfter ≡ held (accepted (s .answer)) recipe (recipeWords (s .recipe))
+      → recipeAfter ≡ held (accepted (s .answer)) 20 recipe (recipeWords (s .recipe))
       → LabelCall text answer recipe answerAfter recipeAfter r
   unfolding returned
   fit answerAfter recipeAfter r la lr told replied-to put =
       let fa = eq-eqb (length answer) 16 la in
-      let fr = eq-eqb (length recipe) 16 lr in
+      let fr = eq-eqb (length recipe) 20 lr in
       record {
         reading = s;
         reads = reads;

@@ -1,5 +1,5 @@
--- Document 01, "Draws, recipe, label", its last paragraph: what the two exported functions return, and every byte they
--- leave.
+-- Document 01, "Draws, recipe, label", its last paragraph, and document 02, M-103: what the two exported functions
+-- return, and every byte they leave.
 -- Declared in src/: Answer (answer); Recipe, Reading (label).
 use Prim.Native.Nat.{ℕ, _/_, _%_, _^_}
 use mathlib.Core.Path.{_≡_}
@@ -22,22 +22,22 @@ abbrev pub answerTo : List ℕ → List ℕ → ℕ → ℕ → List ℕ → Lis
 answerTo program memory pc fp exec ext =
     judgeOf (record { program = program; memory = memory; exec = exec; ext = ext; pc = pc; fp = fp })
 
--- seed (8 bytes), m and n (4 each)
+-- seed (8 bytes), m, n and version (4 each)
 abbrev pub recipeWords : Recipe → List ℕ
-recipeWords r = r .seed % 2 ^ 32 ∷ r .seed / 2 ^ 32 ∷ r .m ∷ r .n ∷ []
+recipeWords r = r .seed % 2 ^ 32 ∷ r .seed / 2 ^ 32 ∷ r .m ∷ r .n ∷ r .version ∷ []
 
 -- ANSWER covers either buffer
 abbrev pub bothFit : List ℕ → List ℕ → Bool
-bothFit answer recipe = eqb (length answer) 16 && eqb (length recipe) 16
+bothFit answer recipe = eqb (length answer) 16 && eqb (length recipe) 20
 
--- a buffer where a test holds and as it was where it doesn't
-abbrev pub held : Bool → List ℕ → List ℕ → List ℕ
-held fit old words = cond fit (putRow old 16 words) old
+-- a buffer of a size where a test holds and as it was where it doesn't
+abbrev pub held : Bool → ℕ → List ℕ → List ℕ → List ℕ
+held fit size old words = cond fit (putRow old size words) old
 
 -- a call of the label reader: the recipe is written only on acceptance, and ANSWER writes nothing anywhere
 pub record LabelCall (text answer recipe answerAfter recipeAfter : List ℕ) (returned : ℕ) : Type 0 where
   pub reading : Reading
   pub reads : Reads text reading
   pub verdict : returned ≡ cond (bothFit answer recipe) (verdictOf (reading .answer)) (verdictOf Buffer)
-  pub answered : answerAfter ≡ held (bothFit answer recipe) answer (answerWords (reading .answer))
-  pub written : recipeAfter ≡ held (bothFit answer recipe && accepted (reading .answer)) recipe (recipeWords (reading .recipe))
+  pub answered : answerAfter ≡ held (bothFit answer recipe) 16 answer (answerWords (reading .answer))
+  pub written : recipeAfter ≡ held (bothFit answer recipe && accepted (reading .answer)) 20 recipe (recipeWords (reading .recipe))

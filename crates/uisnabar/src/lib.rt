@@ -11,10 +11,11 @@ pub use forms::uisnabar_count;
 pub use forms::uisnabar_report;
 use label::Recipe;
 use label::read_label;
-use reply::put_four;
 use reply::reply;
+use word::put_word;
 ghost use mathlib.Core.Path.{_≡_};
 ghost use lib.ListN.{length};
+ghost use Rattle.rows.specs.Rows.{putRow};
 ghost use Rattle.answer.specs.Verdicts.{accepted};
 ghost use Rattle.reply.specs.Reply.{returned, replied};
 ghost use Rattle.uisnabar.specs.Calls.{answerTo, recipeWords, held, LabelCall};
@@ -40,19 +41,25 @@ pub extern "C" fn uisnabar_judge(
     reply(answer, a)
 }
 
-// The recipe's bytes, where the label was accepted.
+// The recipe's words into 20 bytes, all 64 bits of its seed and its version last.
+fn recipe_bytes(recipe: &mut [u8], r: Recipe)
+    requires { ⌜ length (now recipe) ≡ 20 ⌝ }
+    ensures { λ _. ⌜ now (recipe .exit) ≡ putRow (now (recipe .entry)) 20 (recipeWords r) ⌝ }
+{
+    put_word(recipe, 0, (r.seed % 4294967296) as u32);
+    put_word(recipe, 4, (r.seed / 4294967296) as u32);
+    put_word(recipe, 8, r.m);
+    put_word(recipe, 12, r.n);
+    put_word(recipe, 16, r.version);
+}
+
+// The same, where the label was accepted.
 fn put_recipe(recipe: &mut [u8], a: Answer, r: Recipe)
-    requires { ⌜ length (now recipe) ≡ 16 ⌝ }
-    ensures { λ _. ⌜ now (recipe .exit) ≡ held (accepted a) (now (recipe .entry)) (recipeWords r) ⌝ }
+    requires { ⌜ length (now recipe) ≡ 20 ⌝ }
+    ensures { λ _. ⌜ now (recipe .exit) ≡ held (accepted a) 20 (now (recipe .entry)) (recipeWords r) ⌝ }
 {
     if accepted(a) {
-        put_four(
-            recipe,
-            (r.seed % 4294967296) as u32,
-            (r.seed / 4294967296) as u32,
-            r.m,
-            r.n,
-        );
+        recipe_bytes(recipe, r);
     }
 }
 
@@ -65,7 +72,7 @@ pub extern "C" fn uisnabar_label(text: &[u8], answer: &mut [u8], recipe: &mut [u
     if answer.len() != 16 {
         return reply(answer, Answer::Buffer);
     }
-    if recipe.len() != 16 {
+    if recipe.len() != 20 {
         let other = four_numbers(Answer::Buffer);
         return other.verdict;
     }

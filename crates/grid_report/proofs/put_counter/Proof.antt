@@ -2,7 +2,7 @@
 use native.Mathlib.Omega.{arith}
 use borrow.Author.Needs.{needs}
 use lib.ListN.{getD}
-use Rattle.label.specs.Label.{line, decimal}
+use Rattle.lines.specs.Line.{line, decimal}
 use Rattle.lines.proofs.Placing.{stands-next}
 use Rattle.grid_spec.specs.Report.{nameOf}
 use Rattle.grid_report.proofs.Counters.{over-none, zero-line, its-line, its-length}

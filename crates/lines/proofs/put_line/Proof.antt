@@ -2,7 +2,7 @@
 use native.Mathlib.Omega.{arith}
 use borrow.Author.Needs.{needs}
 use lib.ListN.{length-append}
-use Rattle.label.specs.Label.{line, decimal}
+use Rattle.lines.specs.Line.{line, decimal}
 use Rattle.lines.proofs.Numbers.{digits-stand}
 use Rattle.lines.proofs.Placing.{stands-next}
 use Rattle.lines.proofs.put_line.Statement.{statement}

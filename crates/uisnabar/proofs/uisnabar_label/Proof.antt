@@ -15,7 +15,7 @@ returns c =
     let answer = s .answer .now in
     let told = c .before .before .reply .ensures in
     let other = c .before .before .before .before .if1 .taken in
-    unfit (s .text .now) answer (s .recipe .now) _ (c .before .before .before .before .before .read-label .ensures) _ _ (unfit-left answer other _)
+    unfit (s .text .now) answer (s .recipe .now) _ (c .before .before .before .before .before .read-label .ensures) _ _ (unfit-left answer 16 other _)
     (told .0 ∙ buffer-told answer other Buffer) (told .1 ∙ unchanged answer other Buffer)
 
 returns-2 : tie.Need-returns-2
@@ -23,7 +23,7 @@ returns-2 c =
     let s = c .before .before .before .before .before .before .before .args in
     let recipe = s .recipe .now in
     let other = c .before .if2 .taken in
-    unfit (s .text .now) (s .answer .now) recipe _ (c .before .before .before .read-label .ensures) _ _ (unfit-right recipe other (eqb (length (s .answer .now)) 16))
+    unfit (s .text .now) (s .answer .now) recipe _ (c .before .before .before .read-label .ensures) _ _ (unfit-right recipe 20 other (eqb (length (s .answer .now)) 16))
     (rw (c .four-numbers .ensures)) refl
 
 returns-3 : tie.Need-returns-3

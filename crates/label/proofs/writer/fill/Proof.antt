@@ -1,53 +1,52 @@
--- `writer::fill` meets its contract. The invariant: the first i bytes are those of the label, the others as they were.
--- The measure is what is left of the label.
-use Prim.Native.Nat.{_-_, _≤_}
-use mathlib.Core.List.{_++_}
-use mathlib.Core.Path.{_≡_, _∙_}
-use borrow.Author.Needs.{needs}
+-- Each line goes where the one before it ends.
 use native.Mathlib.Omega.{arith}
-use lib.ListN.{length, take, drop, length-set}
-use Rattle.label.specs.Label.{labelOf}
-use Rattle.label.proofs.Put.{put-on, put-all}
+use borrow.Author.Needs.{needs}
+use Rattle.label.proofs.FourLines.{four-long, four-stand}
 use Rattle.label.proofs.writer.fill.Statement.{statement}
 use Rattle.label.proofs.writer.fill.Tie as tie
 
-abbrev Inv-loop : tie.InvT-loop
-Inv-loop recipe size buffer₀ i₀ buffer i =
-    (i ≤ size) × (length buffer ≡ length buffer₀) × (buffer ≡ take i (labelOf recipe) ++ drop i buffer₀)
+put-line-requires : tie.Need-put-line-requires
+put-line-requires c κs = let s = c .before .before .before .before in omega (arith, s .pre, four-long (s .args .recipe))
 
-abbrev μ-loop : tie.MeasureT-loop
-μ-loop recipe size buffer₀ i₀ buffer i = size - i
+put-seed-requires : tie.Need-put-seed-requires
+put-seed-requires c κs =
+    let s = c .before .before .before .before .before .before .before .before in
+    let first = c .before .before .before .put-line in
+    omega (arith, s .pre, four-long (s .args .recipe), first .ensures .0, first .kept)
 
-loop-again : tie.Need-loop-again Inv-loop μ-loop
-loop-again c =
-    let l = c .before .before .loop in
-    let label = labelOf (c .before .before .before .before .args .recipe) in
-    let old = c .before .before .before .before .args .buffer .now in (
-      omega arith,
-      simp length-set (l .inv .1),
-      rw (l .inv .2, c .label-byte .ensures)
-          (put-on label old (l .i) (search needs) (search needs)),
-    )
+put-line-requires-2 : tie.Need-put-line-requires-2
+put-line-requires-2 c κs =
+    let s = c .before .before .before .before .before .before .before .before .before .before .before .before .before .before in
+    let first = c .before .before .before .before .before .before .before .before .before .put-line in
+    let second = c .before .before .before .before .before .put-seed in
+    omega (arith, s .pre, four-long (s .args .recipe), first .ensures .0, first .kept, second .ensures .0, second .kept)
 
-returns : tie.Need-returns Inv-loop μ-loop
+put-line-requires-3 : tie.Need-put-line-requires-3
+put-line-requires-3 c κs =
+    let s = c .before .before .before .before .before .before .before .before .before .before .before .before .before .before .before .before .before .before .before .before in
+    let first = c .before .before .before .before .before .before .before .before .before .before .before .before .before .before .before .put-line in
+    let second = c .before .before .before .before .before .before .before .before .before .before .before .put-seed in
+    let third = c .before .before .before .before .before .put-line2 in
+    omega (arith, s .pre, four-long (s .args .recipe), first .ensures .0, first .kept, second .ensures .0, second .kept, third .ensures .0, third .kept)
+
+returns : tie.Need-returns
 returns c =
-    let l = c .before .loop in
-    let a = c .before .before .before .args in
-    let e : a .size ≡ l .i = omega arith in
-    l .inv .2 ∙ rw e (put-all (labelOf (a .recipe)) (a .buffer .now) (l .i) (search needs))
+    let s = c .before .before .before .before .before .before .before .before .before .before .before .before .before .before .before .before .before .before .before .before .before .before .before in
+    four-stand (s .args .recipe) (s .args .buffer .now) (s .pre) (c .before .before .before .before .before .before .before .before .before .before .before .before .before .before .before .before .before .before .put-line .ensures) (c .before .before .before .before .before .before .before .before .before .before .before .before .before .before .put-seed .ensures) (c .before .before .before .before .before .before .before .before .put-line2 .ensures) (c .before .before .put-line3 .ensures)
 
 pub fill-spec : {M : Type 1} → statement M
 fill-spec =
     tie.close
     (tie.spec
-    Inv-loop
-    μ-loop
     (λ c. search needs)
     (λ c. search needs)
-    (λ c κs. search needs)
+    put-line-requires
+    put-seed-requires
     (λ c. search needs)
     (λ c. search needs)
+    put-line-requires-2
     (λ c. search needs)
-    loop-again
+    (λ c. search needs)
+    put-line-requires-3
     (λ c. search needs)
     returns)

@@ -16,18 +16,13 @@ returns c =
     rw (c .before .label-length .ensures .0)
     (short (s .args .recipe) (s .args .buffer .now) inside (search needs))
 
-fill-requires : tie.Need-fill-requires
-fill-requires c κs =
-    let s = c .before .before .before .before in
-    (sym (s .in-range .ensures) ∙ c .before .before .before .if1 .taken, search needs, search needs, search needs)
-
 returns-2 : tie.Need-returns-2
 returns-2 c =
     let s = c .before .before .before .before .before .before .before .before .before in
     let inside = sym (c .before .before .before .before .before .before .before .in-range .ensures) ∙ c .before .before .before .before .before .before .if1 .taken in
     let size = c .before .before .before .before .before .label-length .ensures .0 in
     let e = enough (s .args .recipe) (s .args .buffer .now) inside (search needs) in
-    (rw size (e .0), c .before .before .fill .ensures ∙ rw size (e .1))
+    (rw size (e .0), c .before .before .fill .ensures ∙ e .1)
 
 returns-3 : tie.Need-returns-3
 returns-3 c =
@@ -42,7 +37,7 @@ write-label-spec =
     label-length-requires
     (λ c. search needs)
     returns
-    fill-requires
+    (λ c κs. search needs)
     (λ c. search needs)
     returns-2
     returns-3)

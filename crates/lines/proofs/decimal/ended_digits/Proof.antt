@@ -6,7 +6,7 @@ use mathlib.Core.Path.{_≡_, refl, sym, _∙_}
 use native.Mathlib.Omega.{arith}
 use borrow.Author.Needs.{needs}
 use lib.ListN.{length, drop, length-set}
-use Rattle.label.specs.Label.{decimal, decimalIn, line}
+use Rattle.lines.specs.Line.{decimal, decimalIn, line}
 use Rattle.lines.proofs.Numbers.{digit-more, digit-last, power-left}
 use Rattle.lines.proofs.decimal.ended_digits.Statement.{statement}
 use Rattle.lines.proofs.decimal.ended_digits.Tie as tie

@@ -1,0 +1,45 @@
+-- A pattern read field by field: each field's reader leaves a cursor, from which the rest of the pattern is read.
+-- Assumes nothing.
+use Prim.Native.Nat.{ℕ}
+use mathlib.Core.Bool.{Bool, true, false, cond}
+use mathlib.Core.List.{List}
+use mathlib.Core.Path.{_≡_, refl, sym, _∙_, ap}
+use lib.ListN.{drop}
+use Rattle.text_patterns.specs.Pattern.{Pattern, done, lit, seq, Live, Parsed, got, left, parse, onto}
+use Rattle.text_patterns.proofs.Order.{by-test}
+use Rattle.text_patterns.proofs.Runs.{parse-seq, parse-lit-then}
+use Rattle.text_fields.specs.Field.{standing, Behind}
+use Rattle.text_fields.specs.declared.Cursor.{Cursor}
+
+-- what a pattern reads from where a cursor stands
+abbrev pub toward : {A : Type 0} → Pattern A → List ℕ → Cursor → Parsed A
+toward f text c = onto (λ v. parse f) (standing text c)
+
+onto-onto : {A B C : Type 0} (j : A → List ℕ → Parsed B) (k : B → List ℕ → Parsed C) (r : Parsed A)
+    → onto (λ a t. onto k (j a t)) r ≡ onto k (onto j r)
+onto-onto j k (got a t) = refl
+onto-onto j k (left t) = refl
+
+onto-same : {A B : Type 0} (j k : A → List ℕ → Parsed B) → ((a : A) (t : List ℕ) → j a t ≡ k a t) → (r : Parsed A) → onto j r ≡ onto k r
+onto-same j k e (got a t) = e a t
+onto-same j k e (left t) = refl
+
+module _ {A : Type 0} (text : List ℕ) (from c : Cursor) where
+  -- behind fixed bytes
+  pub past-lit : (w : List ℕ) (f : Pattern A) → Behind (lit w (done 0)) text from c → toward (lit w f) text from ≡ toward f text c
+  past-lit w f b =
+      onto-same (λ v. parse (lit w f)) (λ v t. onto (λ u. parse f) (parse (lit w (done 0)) t)) (λ v t. parse-lit-then {A = ℕ} 0 f w t) (standing text from)
+      ∙ onto-onto (λ v. parse (lit w (done 0))) (λ u. parse f) (standing text from)
+      ∙ ap (onto (λ u. parse f)) (sym (b .read))
+
+  known : (k : ℕ → Pattern A) → onto (λ v. parse (k v)) (standing text c) ≡ toward (k (c .value)) text c
+  known k = by-test (c .stopped) (λ e. rw e) (λ e. rw e)
+
+  -- behind a field, whose value the cursor has
+  pub past-field : (f : Pattern ℕ) (k : ℕ → Pattern A) (P : ℕ → Type 0) → Live false P f → Behind f text from c
+      → toward (seq f k) text from ≡ toward (k (c .value)) text c
+  past-field f k P live b =
+      onto-same (λ v. parse (seq f k)) (λ v t. onto (λ u. parse (k u)) (parse f t)) (λ v t. parse-seq P k f t live) (standing text from)
+      ∙ onto-onto (λ v. parse f) (λ u. parse (k u)) (standing text from)
+      ∙ ap (onto (λ u. parse (k u))) (sym (b .read))
+      ∙ known k

@@ -1,0 +1,22 @@
+-- Inner: what a byte is worth as a digit, and whether a number goes on with it.
+-- Declared in src/: Step (here).
+use Prim.Native.Nat.{ℕ, _+_, _-_, _*_}
+use mathlib.Core.Bool.{cond}
+use lib.Dec.{ltb, leb, eqb}
+use Rattle.text_fields.specs.declared.number.Step.{Step}
+use Rattle.text_fields.specs.declared.number.Step.the-variants.{On, End, Stop}
+
+-- the value of a lower-case hex digit, 16 for any other byte
+unfoldable pub hexValue : ℕ → ℕ
+hexValue b = cond (ltb b 48) 16 (cond (ltb b 58) (b - 48) (cond (ltb b 97) 16 (cond (ltb b 103) (b - 87) 16)))
+
+-- the value of a decimal digit, 10 for any other byte
+unfoldable pub decimalValue : ℕ → ℕ
+decimalValue b = cond (ltb b 48) 10 (cond (ltb b 58) (b - 48) 10)
+
+-- a byte behind the digits of x, in a number of at most high that a byte ends
+unfoldable pub nextDigit : ℕ → ℕ → ℕ → ℕ → Step
+nextDigit x high end b =
+    cond (eqb end b) End
+    (cond (ltb (decimalValue b) 10)
+    (cond (ltb 0 x) (cond (leb (10 * x + decimalValue b) high) (On (10 * x + decimalValue b)) Stop) Stop) Stop)

@@ -1,0 +1,117 @@
+// A text's fields, one behind the other: each reader goes on from a cursor and stops at the first byte that its field
+// cannot have.
+mod digit;
+mod number;
+
+use digit::decimal_value;
+use digit::is_hex;
+use digit::known_hex;
+pub use number::read_number;
+ghost use mathlib.Core.Bool.{true};
+ghost use mathlib.Core.Path.{_≡_};
+ghost use Prim.Native.Nat.{_≤_, _<_};
+ghost use lib.ListN.{length};
+ghost use Rattle.text_patterns.specs.Pattern.{lit, done};
+ghost use Rattle.text_patterns.specs.Fields.{digits, one};
+ghost use Rattle.text_fields.specs.Digit.{hexValue, decimalValue};
+ghost use Rattle.text_fields.specs.Field.{Behind};
+
+// How far a text is read: the last field's value, and the place behind it; or where the text leaves every valid one.
+pub struct Cursor {
+    pub at: usize,
+    pub value: u64,
+    pub stopped: bool,
+}
+
+// The text cannot go on at a place.
+pub(crate) fn stop_at(at: usize) -> Cursor
+    ensures { λ r. ⌜ r ≡ record { at = at; value = 0; stopped = true } ⌝ }
+{
+    Cursor {
+        at,
+        value: 0,
+        stopped: true,
+    }
+}
+
+// Fixed bytes; their value is 0.
+pub fn read_literal(text: &[u8], from: Cursor, word: &[u8]) -> Cursor
+    requires { ⌜ from .at ≤ length (now text) ⌝ }
+    ensures { λ r. ⌜ Behind (lit (now (word .entry)) (done 0)) (now (text .entry)) from r ⌝ }
+{
+    let at = from.at;
+    if from.stopped {
+        return stop_at(at);
+    }
+    let mut i = at;
+    let mut j = 0;
+    while j < word.len() {
+        if text.len() <= i {
+            return stop_at(i);
+        }
+        if word[j] != text[i] {
+            return stop_at(i);
+        }
+        i += 1;
+        j += 1;
+    }
+    Cursor {
+        at: i,
+        value: 0,
+        stopped: false,
+    }
+}
+
+// One decimal digit of a range.
+pub fn read_digit(text: &[u8], from: Cursor, low: u64, high: u64) -> Cursor
+    requires { ⌜ (from .at ≤ length (now text)) × (high < 10) ⌝ }
+    ensures { λ r. ⌜ Behind (one decimalValue low high) (now (text .entry)) from r × (r .value ≤ high) ⌝ }
+{
+    let at = from.at;
+    if from.stopped {
+        return stop_at(at);
+    }
+    if text.len() <= at {
+        return stop_at(at);
+    }
+    let d = decimal_value(text[at]);
+    if (d < low) | (high < d) {
+        return stop_at(at);
+    }
+    Cursor {
+        at: at + 1,
+        value: d,
+        stopped: false,
+    }
+}
+
+// Sixteen lower-case hex digits, all 64 bits.
+pub fn read_hex(text: &[u8], from: Cursor) -> Cursor
+    requires { ⌜ from .at ≤ length (now text) ⌝ }
+    ensures { λ r. ⌜ Behind (digits 16 hexValue 16 0) (now (text .entry)) from r ⌝ }
+{
+    let at = from.at;
+    if from.stopped {
+        return stop_at(at);
+    }
+    let mut i = at;
+    let mut x = 0;
+    let mut k: usize = 0;
+    while k < 16 {
+        if text.len() <= i {
+            return stop_at(i);
+        }
+        let byte = text[i];
+        if !is_hex(byte) {
+            return stop_at(i);
+        }
+        x = 16 * x + known_hex(byte);
+        i += 1;
+        k += 1;
+    }
+    Cursor {
+        at: i,
+        value: x,
+        stopped: false,
+    }
+}

@@ -1,0 +1,4 @@
+pub mod Place
+pub mod Reader
+pub mod Pattern
+pub mod Fields
