@@ -97,7 +97,7 @@ disagreement() {
         ln -s "$PWD/$item" "$copy/$item"
         touch -h -d 2000-01-01 "$copy/$item"
     done
-    sed -i 's/return (8, 0, place, 0, 0, 0, 0)/return (8, 0, place + 1, 0, 0, 0, 0)/' "$copy/tests/oracle.py"
+    sed -i 's/return (8, 0, place, 0,/return (8, 0, place + 1, 0,/' "$copy/tests/oracle.py"
     ! cmp -s tests/oracle.py "$copy/tests/oracle.py" || fault "tests/oracle.py has no such line to spoil"
     gives 1 "$copy/bench" record shelf/refused-n-125.label "$copy/shelf"
     complained 'computed LABEL place 36, now LABEL place 35'
