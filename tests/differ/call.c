@@ -56,11 +56,28 @@ void note_back(differ *d, size_t len)
     d->what[len] = 0;
 }
 
+/* The functions that are for tests only. */
+static uint32_t call_probe(const attempt *t, const slot *s)
+{
+    second_recipe r = t->recipe;
+    switch (t->function) {
+    case TABLER:
+        return probe_table(s[0].lent, s[0].len, s[1].lent, s[1].len, t->pc,
+                           t->fp, s[2].lent, s[2].len, s[3].lent, s[3].len,
+                           s[4].lent, s[4].len);
+    case MAKER:
+        return probe_make(r.version, r.seed, r.m, r.n, s[0].lent, s[0].len,
+                          s[1].lent, s[1].len, s[2].lent, s[2].len);
+    default:
+        return probe_write(r.version, r.seed, r.m, r.n, s[0].lent, s[0].len,
+                           s[1].lent, s[1].len);
+    }
+}
+
 static void call_library(void *at)
 {
     library_call *c = at;
     const slot *s = c->s;
-    second_recipe r = c->t->recipe;
     switch (c->t->function) {
     case JUDGE:
         c->returned = uisnabar_judge(s[0].lent, s[0].len, s[1].lent, s[1].len,
@@ -85,19 +102,8 @@ static void call_library(void *at)
         c->returned = uisnabar_translate(s[0].lent, s[0].len, s[1].lent,
                                          s[1].len, s[2].lent, s[2].len);
         break;
-    case TABLER:
-        c->returned = probe_table(s[0].lent, s[0].len, s[1].lent, s[1].len,
-                                  c->t->pc, c->t->fp, s[2].lent, s[2].len,
-                                  s[3].lent, s[3].len, s[4].lent, s[4].len);
-        break;
-    case MAKER:
-        c->returned = probe_make(r.version, r.seed, r.m, r.n, s[0].lent,
-                                 s[0].len, s[1].lent, s[1].len, s[2].lent,
-                                 s[2].len);
-        break;
     default:
-        c->returned = probe_write(r.version, r.seed, r.m, r.n, s[0].lent,
-                                  s[0].len, s[1].lent, s[1].len);
+        c->returned = call_probe(c->t, s);
     }
 }
 
