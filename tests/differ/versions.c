@@ -63,7 +63,7 @@ static void count_recipe(version_tally *v, const attempt *t, second_answer a)
                      : t->lent[0].len >= MOST_TEXT;
     if (room)
         count_number(made ? v->made : v->written, r.version);
-    else
+    else if (made || t->lent[0].len < LEAST_TEXT)
         v->cases[made ? MAKER_ORDER : WRITER_ORDER] += bad;
     if (made && a.verdict == ACCEPTED)
         count_draws(v, r);
