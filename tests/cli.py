@@ -58,7 +58,7 @@ def labels():
     """Every label of the shelf, from a file and from standard input."""
     for path in sorted((ROOT / "shelf").glob("*.label")):
         text = path.read_bytes()
-        *answer, seed, m, n = oracle.read_label(text)
+        *answer, _, seed, m, n = oracle.read_label(text)
         if answer[0] == 0:
             said = f"ACCEPTED: a label of seed {seed:016x}, m {m} and n {n}\n"
         elif answer[2] < len(text):

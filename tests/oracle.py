@@ -1,10 +1,11 @@
 """A second implementation of the bench, written from the documents alone.
 
-Sources: document 01 ("01, <heading>") and draft 0.6.0 ("0.6.0, <section>"), with the founders' decided points where they
-leave a choice. It shares nothing with the bench it is compared with, and is plain rather than fast.
+Sources: document 01 ("01, <heading>"), document 02's M-103 ("02, M-103") and draft 0.6.0 ("0.6.0, <section>"), with the
+founders' decided points where they leave a choice. It shares nothing with the bench it is compared with, and is plain
+rather than fast.
 An answer is (verdict, part, place, rule). Words are Python integers below P, elements are 5-tuples of words.
-Form counts are in oracle_forms.py, programs of draft 0.5.0 in oracle_editions.py. Run as a program it checks itself,
-and them.
+Form counts are in oracle_forms.py, programs of draft 0.5.0 in oracle_editions.py, the checks of both versions of a
+recipe in oracle_versions.py. Run as a program it checks itself, and them.
 """
 
 import struct
@@ -16,6 +17,7 @@ NAMES = ("ACCEPTED", "SIZE", "WORD", "INSTRUCTION", "START", "EXEC", "EXTENSION"
          "LABEL", "STUCK", "ROOM", "OPEN", "SELF", "ANSWER", "GRID", "EDITION")
 ONE = (1, 0, 0, 0, 0)
 ADD, MUL, PEQ = 4, 8, 16
+VERSIONS, BOUND = (1, 2), 4261412866  # of a recipe; version 2 throws away what it draws for a cell from here on
 
 # ---- words and elements ----
 def element_sum(x, y):
@@ -72,41 +74,49 @@ def draw(state):
     state = (6364136223846793005 * state + 1442695040888963407) % 2**64
     return state >> 32, state
 
-def require(seed, m, n):
-    """ValueError, which stands for SIZE part 0, unless the recipe is one (01, Draws, recipe, label; point 2)."""
-    if not (0 <= seed < 2**64 and 10 <= m <= 29 and 1 <= n <= 124):
+def draw_cell(version, state):
+    """(cell, advanced state): version 2 throws away up to eight draws that are too large (02, M-103; point 16)."""
+    number, state = draw(state)
+    for _ in range(8 if version == 2 else 0):
+        if number >= BOUND:
+            number, state = draw(state)
+    return number % P, state
+
+def require(version, seed, m, n):
+    """ValueError, which stands for SIZE part 0, unless the recipe is one (01, Draws, recipe; 02, M-103; point 2)."""
+    if not (version in VERSIONS and 0 <= seed < 2**64 and 10 <= m <= 29 and 1 <= n <= 124):
         raise ValueError("recipe out of range")
 
-def label(seed, m, n):
-    """The label of a recipe (01, Draws, recipe, label)."""
-    require(seed, m, n)
-    return b"v=1\nseed=%016x\nm=%d\nn=%d\n" % (seed, m, n)
+def label(version, seed, m, n):
+    """The label of a recipe (01, Draws, recipe, label; 02, M-103)."""
+    require(version, seed, m, n)
+    return b"v=%d\nseed=%016x\nm=%d\nn=%d\n" % (version, seed, m, n)
 
-HEAD = b"v=1\nseed="
+HEADS = {b"v=%d\nseed=" % version: version for version in VERSIONS}
 TAILS = {b"\nm=%d\nn=%d\n" % (m, n): (m, n) for m in range(10, 30) for n in range(1, 125)}
 TAIL_PREFIXES = {tail[:k] for tail in TAILS for k in range(len(tail) + 1)}
 
 def begins_label(text):
     """Whether some valid label begins with the text (01, Verdicts, LABEL)."""
     head, digits, tail = text[:9], text[9:25], text[25:]
-    return HEAD.startswith(head) and all(d in b"0123456789abcdef" for d in digits) and tail in TAIL_PREFIXES
+    begins = any(whole.startswith(head) for whole in HEADS)
+    return begins and all(d in b"0123456789abcdef" for d in digits) and tail in TAIL_PREFIXES
 
 def read_label(text):
-    """(verdict, part, place, rule, seed, m, n) (01, Verdicts and Draws, recipe, label)."""
+    """(verdict, part, place, rule, version, seed, m, n) (01, Verdicts and Draws, recipe, label; 02, M-103)."""
     text, place = bytes(text), 0
     while place < len(text) and begins_label(text[:place + 1]):
         place += 1
     if place == len(text) and text[25:] in TAILS:
-        return (0, 0, 0, 0, int(text[9:25], 16)) + TAILS[text[25:]]
-    return (8, 0, place, 0, 0, 0, 0)
+        return (0, 0, 0, 0, HEADS[text[:9]], int(text[9:25], 16)) + TAILS[text[25:]]
+    return (8, 0, place, 0, 0, 0, 0, 0)
 
-def make(seed, m, n):
-    """(program, memory) of a recipe (01, Draws, recipe, label; point 12)."""
-    require(seed, m, n)
+def make(version, seed, m, n):
+    """(program, memory) of a recipe (01, Draws, recipe, label; 02, M-103; point 12)."""
+    require(version, seed, m, n)
     cells, code, state = [0] * 2**m, [], seed
     for i in range(32):
-        number, state = draw(state)
-        cells[i] = number % P
+        cells[i], state = draw_cell(version, state)
     for i in range(n):
         kind, state = draw(state)
         a, state = draw(state)
@@ -381,10 +391,10 @@ def self_check():
     check("peq", (element_peq(embed(2), embed(3)), element_peq(ONE, embed(0))), (embed(8), embed(0)))
     check("data", (data_word(MUL, 1, 4), data_word(ADD, 0, 3), data_word(PEQ, 0, 3)), (138, 100, 112))
     check("draws", [draw(s)[0] for s in (0, 1, 2**32)], [335903614, 1817669548, 1620769451])
-    good = label(0x12fffffff, 10, 124)
+    good = label(1, 0x12fffffff, 10, 124)
     for old, new, place in ((b"124", b"125", 35), (b"\n", b"\r\n", 3), (b"4\n", b"4", 36), (b"4\n", b"4\nx", 37),
-                            (b"f", b"F", 18), (b"m=10", b"m=30", 28), (b"n=1", b"n=0", 33), (b"v=1", b"v=2", 2)):
-        check("label %r" % new, read_label(good.replace(old, new)), (8, 0, place, 0, 0, 0, 0))
+                            (b"f", b"F", 18), (b"m=10", b"m=30", 28), (b"n=1", b"n=0", 33), (b"v=1", b"v=3", 2)):
+        check("label %r" % new, read_label(good.replace(old, new)), (8, 0, place, 0, 0, 0, 0, 0))
 
     zeros = [0] * 256
     for name, insts, wanted in (
@@ -429,8 +439,8 @@ def self_check():
         check("two flags", judge(*parts, 0, 0, steps, poke(poke(groups, 271, 1), 272, 1)), (7, 4, 9, 0))
 
     for seed, n in ((seed, n) for seed in (0, 1, 42, 2**32, 0x12fffffff, 2**63, 2**64 - 1) for n in (1, 2, 5, 20, 60, 124)):
-        check("read back", read_label(label(seed, 10, n)), ok + (seed, 10, n))
-        parts, state = make(seed, 10, n), seed
+        check("read back", read_label(label(1, seed, 10, n)), ok + (1, seed, 10, n))
+        parts, state = make(1, seed, 10, n), seed
         answer, steps, groups = table(*parts, 0, 0, 32 * 256, 120 * 256)
         check("recipe %x %d" % (seed, n), (answer, judge(*parts, 0, 0, steps, groups)), (ok, ok))
         for k in range(8):  # be is free on padding, so column 8 is left alone
@@ -444,10 +454,11 @@ def self_check():
     return passed, failed
 
 if __name__ == "__main__":
-    import oracle_editions  # here, as the two import this file
+    import oracle_editions  # here, as the three import this file
     import oracle_forms
+    import oracle_versions
 
-    CHECKED = self_check(), oracle_forms.self_check(), oracle_editions.self_check()
+    CHECKED = (self_check(), oracle_forms.self_check(), oracle_editions.self_check(), oracle_versions.self_check())
     PASSED, FAILED = ([line for part in parts for line in part] for parts in zip(*CHECKED))
     print("\n".join(FAILED) or "oracle: %d checks passed" % len(PASSED))
     sys.exit(bool(FAILED))

@@ -1,4 +1,4 @@
-"""The shelf: labels, and beside each the answer and the tables' checksum, computed by tests/oracle.py from document 01.
+"""The shelf: labels, and beside each the answer and the tables' checksum, computed by tests/oracle.py.
 
 `shelf.py DIR check` says what differs from the files that stand there; `shelf.py DIR write` writes them; `shelf.py DIR beside NAME`
 writes the answer and the checksum of one label that stands there. The labels are chosen here, and `choice` asserts what they cover;
@@ -8,6 +8,7 @@ import pathlib
 import sys
 
 import oracle
+import oracle_versions
 
 H = K = 256
 SEEDS = {"low": 0x000000002FFFFFFF, "one": 0x000000012FFFFFFF, "all": 0xFFFFFFFF2FFFFFFF}  # they differ in the upper half alone
@@ -19,12 +20,12 @@ def four_lines(answer):
 
 def answer_and_tables(text):
     """What the replay and the table program write, by document 01."""
-    *answer, seed, m, n = oracle.read_label(text)
+    *answer, version, seed, m, n = oracle.read_label(text)
     if answer[0] != 0:
         return four_lines(answer), b""
     if m != 10:
         return text + four_lines((1, 2, 0, 0)), b""
-    program, memory = oracle.make(seed, m, n)
+    program, memory = oracle.make(version, seed, m, n)
     tabled, execution, extension = oracle.table(program, memory, 0, 0, 32 * H, 120 * K)
     judged = oracle.judge(program, memory, 0, 0, execution, extension)
     if tabled[0] != 0 or judged[0] != 0:
@@ -34,7 +35,7 @@ def answer_and_tables(text):
 
 def kind_of(seed):
     """The kind of a recipe's first instruction, and for an extension its operation, be and N."""
-    program, _ = oracle.make(seed, 10, 1)
+    program, _ = oracle.make(1, seed, 10, 1)
     words = oracle.words_of(program)[:12]
     if words[8]:
         return "mul"
@@ -53,16 +54,16 @@ def choice():
     """Each label under its name: a first instruction of every kind, both ends of n, seeds that differ in the upper half, refusals."""
     labels, seed = {}, 0
     while len(labels) < len(KINDS):
-        labels.setdefault("kind-" + kind_of(seed), oracle.label(seed, 10, 1))
+        labels.setdefault("kind-" + kind_of(seed), oracle.label(1, seed, 10, 1))
         seed += 1
     assert set(labels) == {"kind-" + kind for kind in KINDS}
     for name, number in SEEDS.items():
-        labels["upper-half-" + name] = oracle.label(number, 10, 124)
-    labels["seed-0"] = oracle.label(0, 10, 124)
-    labels["seed-last"] = oracle.label(2**64 - 1, 10, 124)
-    labels["memory-11"] = oracle.label(1, 11, 60)
-    labels["memory-29"] = oracle.label(1, 29, 60)
-    whole = oracle.label(SEEDS["one"], 10, 12)
+        labels["upper-half-" + name] = oracle.label(1, number, 10, 124)
+    labels["seed-0"] = oracle.label(1, 0, 10, 124)
+    labels["seed-last"] = oracle.label(1, 2**64 - 1, 10, 124)
+    labels["memory-11"] = oracle.label(1, 1, 11, 60)
+    labels["memory-29"] = oracle.label(1, 1, 29, 60)
+    whole = oracle.label(1, SEEDS["one"], 10, 12)
     labels["refused-n-125"] = b"v=1\nseed=000000012fffffff\nm=10\nn=125\n"
     labels["refused-cut"] = whole[:-1]
     labels["refused-more"] = whole + b"\n"
@@ -70,7 +71,27 @@ def choice():
     labels["refused-capital"] = whole.replace(b"f", b"F")
     labels["refused-empty"] = b""
     labels["refused-binary"] = bytes(range(256))
-    return labels
+    labels["refused-v-3"] = whole.replace(b"v=1", b"v=3")
+    labels["refused-v2-n-125"] = labels["refused-n-125"].replace(b"v=1", b"v=2")
+    return labels | second_version()
+
+
+def second_version():
+    """Labels of version 2: as the others, and with draws thrown away for a cell in each way that there is."""
+    (first, other), ninth = oracle_versions.EIGHT, oracle_versions.NINE
+    bound, before, drawing = oracle.BOUND, oracle_versions.before, oracle_versions.drawing
+    seeds = {"upper-half-" + name: number for name, number in SEEDS.items()}
+    seeds |= {"seed-0": 0, "seed-last": 2**64 - 1, "none-thrown": before(first, 32), "eight-thrown": first,
+              "eight-thrown-other": other, "eight-thrown-last-cell": before(first, 31), "ninth-at-bound": ninth,
+              "first-at-bound": drawing(bound, 1), "first-below-bound": drawing(bound - 1, 1)}
+    counts = {name: oracle_versions.thrown(seed) for name, seed in seeds.items()}
+    assert [name for name in seeds if counts[name][0] == 8] == ["eight-thrown", "eight-thrown-other", "ninth-at-bound"]
+    assert counts["eight-thrown-last-cell"] == [0] * 31 + [8]
+    assert counts["first-at-bound"][0] == 1 and counts["first-below-bound"][0] == 0
+    # its eight large draws are the first instructions', so it makes what version 1 makes
+    assert oracle.make(2, seeds["none-thrown"], 10, 124) == oracle.make(1, seeds["none-thrown"], 10, 124)
+    labels = {"v2-" + name: oracle.label(2, seed, 10, 124) for name, seed in seeds.items()}
+    return labels | {"v2-memory-11": oracle.label(2, 1, 11, 60)}
 
 
 def beside(name, text):
@@ -106,7 +127,7 @@ def main(folder, what, *names):
     for name in sorted(set(expected) | {path.name for path in folder.iterdir()}):
         path = folder / name
         if name not in expected or not path.exists() or path.read_bytes() != expected[name]:
-            print(f"{path} is not what document 01 gives")
+            print(f"{path} is not what the documents give")
             faults += 1
     print(f"{len(expected) // 3} labels computed, {faults} files differ")
     return 1 if faults else 0

@@ -166,7 +166,7 @@ def rooms(t):
 def recipes(t):
     for seed in (0x000000002fffffff, 0x000000012fffffff, 0xffffffff2fffffff):
         for n in (1, 124):
-            t.table(f"recipe {seed:016x}, n {n}", ACCEPTED, *oracle.make(seed, 10, n), (0, 0))
+            t.table(f"recipe {seed:016x}, n {n}", ACCEPTED, *oracle.make(1, seed, 10, n), (0, 0))
 
 
 def cases(t):

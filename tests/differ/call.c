@@ -7,8 +7,9 @@
 
 #include "library.h"
 #include "thread.h"
+#include "versions.h"
 
-enum { ANSWER_BYTES = 16, RECIPE_BYTES = 16, WRITTEN_BYTES = 8 };
+enum { ANSWER_BYTES = 16, WRITTEN_BYTES = 8 };
 
 _Static_assert(UISNABAR_ANSWER_BYTES == ANSWER_BYTES
                && UISNABAR_RECIPE_BYTES == RECIPE_BYTES
@@ -55,11 +56,28 @@ void note_back(differ *d, size_t len)
     d->what[len] = 0;
 }
 
+/* The functions that are for tests only. */
+static uint32_t call_probe(const attempt *t, const slot *s)
+{
+    second_recipe r = t->recipe;
+    switch (t->function) {
+    case TABLER:
+        return probe_table(s[0].lent, s[0].len, s[1].lent, s[1].len, t->pc,
+                           t->fp, s[2].lent, s[2].len, s[3].lent, s[3].len,
+                           s[4].lent, s[4].len);
+    case MAKER:
+        return probe_make(r.version, r.seed, r.m, r.n, s[0].lent, s[0].len,
+                          s[1].lent, s[1].len, s[2].lent, s[2].len);
+    default:
+        return probe_write(r.version, r.seed, r.m, r.n, s[0].lent, s[0].len,
+                           s[1].lent, s[1].len);
+    }
+}
+
 static void call_library(void *at)
 {
     library_call *c = at;
     const slot *s = c->s;
-    second_recipe r = c->t->recipe;
     switch (c->t->function) {
     case JUDGE:
         c->returned = uisnabar_judge(s[0].lent, s[0].len, s[1].lent, s[1].len,
@@ -84,18 +102,8 @@ static void call_library(void *at)
         c->returned = uisnabar_translate(s[0].lent, s[0].len, s[1].lent,
                                          s[1].len, s[2].lent, s[2].len);
         break;
-    case TABLER:
-        c->returned = probe_table(s[0].lent, s[0].len, s[1].lent, s[1].len,
-                                  c->t->pc, c->t->fp, s[2].lent, s[2].len,
-                                  s[3].lent, s[3].len, s[4].lent, s[4].len);
-        break;
-    case MAKER:
-        c->returned = probe_make(r.seed, r.m, r.n, s[0].lent, s[0].len,
-                                 s[1].lent, s[1].len, s[2].lent, s[2].len);
-        break;
     default:
-        c->returned = probe_write(r.seed, r.m, r.n, s[0].lent, s[0].len,
-                                  s[1].lent, s[1].len);
+        c->returned = call_probe(c->t, s);
     }
 }
 
@@ -186,6 +194,7 @@ static void tell(enum function f, const slot *s, second_answer a, given g)
         store_number(s[2].mirror, g.read.seed);
         store_word(s[2].mirror + 8, g.read.m);
         store_word(s[2].mirror + 12, g.read.n);
+        store_word(s[2].mirror + 16, g.read.version);
     }
     if (f == REPORT)
         store_number(s[2].mirror, g.written);
@@ -197,7 +206,7 @@ static second_answer wanted(const attempt *t, const slot *s, uint32_t *returned)
 {
     bool fit = lengths_fit(t->function, s);
     second_answer a = { ANSWER, 0, 0, 0 };
-    given g = { { 0, 0, 0 }, 0, 0 };
+    given g = { { 0, 0, 0, 0 }, 0, 0 };
     if (fit || is_probe(t->function))
         a = second_answers(t, s, &g);
     if (fit)
@@ -258,6 +267,7 @@ second_answer compare(differ *d, const attempt *t)
         call_library(&c);
     second_answer a = wanted(t, d->slots, &want);
     tally_add(&d->reached, t->function, a);
+    count_versions(&d->reached.versions, t, a);
     bool same = c.returned == want;
     for (int i = 0; i < SLOTS; i++)
         same = same && slot_fault(&d->slots[i], &at) == NULL;

@@ -6,7 +6,7 @@
 #include "lend.h"
 #include "tally.h"
 
-enum { SLOTS = 6, FULL_DIFFERENCES = 10 };
+enum { SLOTS = 6, FULL_DIFFERENCES = 10, RECIPE_BYTES = 20 };
 
 /* A buffer at entry; bytes NULL stands for random bytes. */
 typedef struct {

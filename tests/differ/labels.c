@@ -35,6 +35,16 @@ static void erase(text *t, size_t at)
     memmove(t->bytes + at, t->bytes + at + 1, t->len - at);
 }
 
+/* A version as text, now and then none that there is. */
+static const char *some_version(source *random)
+{
+    static const char *const odd[] = { "0", "3", "11", "12", "21", "01", "02",
+                                       "", "2 ", "+1", "257", "4294967298" };
+    if (once_in(random, 6))
+        return odd[below(random, sizeof odd / sizeof *odd)];
+    return once_in(random, 2) ? "1" : "2";
+}
+
 /* A whole text of numbers that may be out of range or oddly written. */
 static void odd_numbers(source *random, text *t)
 {
@@ -45,8 +55,8 @@ static void odd_numbers(source *random, text *t)
     snprintf(m, sizeof m, form_m, 8 + below(random, 24));
     snprintf(n, sizeof n, form_n,
              once_in(random, 2) ? below(random, 13) : 95 + below(random, 40));
-    int len = snprintf(all, sizeof all, "v=%u\nseed=%016llx\nm=%s\nn=%s\n",
-                       1 + once_in(random, 12),
+    int len = snprintf(all, sizeof all, "v=%s\nseed=%016llx\nm=%s\nn=%s\n",
+                       some_version(random),
                        (unsigned long long)next_number(random), m, n);
     t->len = (size_t)len;
     memcpy(t->bytes, all, t->len);
@@ -76,7 +86,7 @@ static void other_style(source *random, text *t)
 static void spoil_text(source *random, text *t)
 {
     size_t at = below(random, (uint32_t)t->len);
-    switch (below(random, 9)) {
+    switch (below(random, 10)) {
     case 0: /* a cut at each byte comes in turn, see try_label */
         t->len = 0;
         break;
@@ -102,6 +112,9 @@ static void spoil_text(source *random, text *t)
         for (size_t i = at; i < t->len; i++)
             t->bytes[i] = some_byte(random);
         break;
+    case 8:
+        t->bytes[2] = some_byte(random); /* the version */
+        break;
     default:
         odd_numbers(random, t);
     }
@@ -126,6 +139,8 @@ void try_label(differ *d)
     text t;
     if (turn % 2 == 0) /* of the longest, so that each place comes in turn */
         r.n = 100 + below(random, 25);
+    if (turn % 4 == 0) /* and that of each version */
+        r.version = 1 + (uint32_t)(turn / 4 / (LONGEST + 1) % VERSIONS);
     second_write_label(r, t.bytes, MOST, &length);
     t.len = length;
     if (turn % 4 == 0)
@@ -136,7 +151,7 @@ void try_label(differ *d)
         append(random, &t);
     a.lent[0] = (buffer){ t.bytes, t.len, false };
     a.lent[1].len = some_answer_length(random);
-    a.lent[2].len = some_answer_length(random);
+    a.lent[2].len = some_recipe_length(random);
     note_text(d, &t, a.lent[1].len, a.lent[2].len);
     compare(d, &a);
 }

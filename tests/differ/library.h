@@ -14,11 +14,11 @@ uint32_t probe_table(const uint8_t *program, size_t program_len,
                      uint8_t *exec, size_t exec_len,
                      uint8_t *ext, size_t ext_len,
                      uint8_t *answer, size_t answer_len);
-uint32_t probe_make(uint64_t seed, uint32_t m, uint32_t n,
+uint32_t probe_make(uint32_t version, uint64_t seed, uint32_t m, uint32_t n,
                     uint8_t *program, size_t program_len,
                     uint8_t *memory, size_t memory_len,
                     uint8_t *answer, size_t answer_len);
-uint32_t probe_write(uint64_t seed, uint32_t m, uint32_t n,
+uint32_t probe_write(uint32_t version, uint64_t seed, uint32_t m, uint32_t n,
                      uint8_t *text, size_t text_len,
                      uint8_t *answer, size_t answer_len);
 

@@ -1,7 +1,8 @@
 /* Compares the library with the second implementation, call by call.
  *
- *   differ SEED CALLS             stops after that many calls, counts, reports
- *                                 and translations not among them
+ *   differ SEED CALLS             stops after that many calls, counts, reports,
+ *                                 translations and the lists of versions.c
+ *                                 not among them
  *   differ SEED 0 SECONDS         stops after that long
  *   differ --page SEED CALLS      buffers at pages that fault, small stack
  *   differ --large                a few tables of 16,383 and of 32,767 groups,
@@ -18,6 +19,7 @@
 #include <time.h>
 
 #include "tries.h"
+#include "versions.h"
 
 static differ all;
 
@@ -61,6 +63,7 @@ static void run(differ *d, uint64_t seconds)
     double from = seconds_now();
     try_limits(d);
     try_every_old(d);
+    try_versions(d);
     for (uint32_t turn = 0; more_calls(d)
          && (seconds == 0 || seconds_now() - from < (double)seconds); turn++)
         one_turn(d, turn);
@@ -99,8 +102,8 @@ int main(int argc, char **argv)
     run(&all, seconds);
     end_campaign(&all);
     bool complete = tally_report(&all.reached);
-    printf("calls: %" PRIu64 ", and %" PRIu64 " of counts, reports and "
-           "translations\ndifferences: %" PRIu64 "\n", all.calls - all.extra,
-           all.extra, all.differences);
+    printf("calls: %" PRIu64 ", and %" PRIu64 " of counts, reports, "
+           "translations and versions\ndifferences: %" PRIu64 "\n",
+           all.calls - all.extra, all.extra, all.differences);
     return complete && all.differences == 0 ? 0 : 1;
 }

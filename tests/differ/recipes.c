@@ -3,6 +3,8 @@
 
 #include <inttypes.h>
 
+#include "seeds.h"
+
 static uint32_t out_of_range(source *random, uint32_t low, uint32_t high)
 {
     switch (below(random, 5)) {
@@ -21,19 +23,19 @@ static uint32_t out_of_range(source *random, uint32_t low, uint32_t high)
 
 second_recipe some_recipe(source *random, bool in_range)
 {
-    second_recipe r = { next_number(random), 10 + below(random, 20),
-                        1 + below(random, 124) };
-    if (once_in(random, 4))
-        r.seed = once_in(random, 2) ? UINT64_MAX : below(random, 3);
+    second_recipe r = { some_seed(random), 10 + below(random, 20),
+                        1 + below(random, 124), 1 + below(random, VERSIONS) };
     if (once_in(random, 4))
         r.n = once_in(random, 2) ? 124 : 1 + below(random, 10);
     if (in_range)
         return r;
-    uint32_t which = below(random, 3);
-    if (which != 0)
+    uint32_t which = 1 + below(random, 7); /* a bit for each */
+    if ((which & 1) != 0)
         r.m = out_of_range(random, 10, 29);
-    if (which != 1)
+    if ((which & 2) != 0)
         r.n = out_of_range(random, 1, 124);
+    if ((which & 4) != 0)
+        r.version = out_of_range(random, 1, VERSIONS);
     return r;
 }
 
@@ -43,11 +45,17 @@ size_t some_answer_length(source *random)
     return once_in(random, 12) ? lengths[below(random, 6)] : 16;
 }
 
+size_t some_recipe_length(source *random)
+{
+    return once_in(random, 12) ? recipe_lengths[below(random, RECIPE_LENGTHS)]
+                               : RECIPE_BYTES;
+}
+
 static void note_recipe(differ *d, const attempt *t)
 {
-    note(d, "recipe %" PRIx64 " m %" PRIu32 " n %" PRIu32 ", lengths %zu %zu %zu",
-         t->recipe.seed, t->recipe.m, t->recipe.n, t->lent[0].len,
-         t->lent[1].len, t->lent[2].len);
+    note(d, "recipe %" PRIx64 " m %" PRIu32 " n %" PRIu32 " version %" PRIu32
+         ", lengths %zu %zu %zu", t->recipe.seed, t->recipe.m, t->recipe.n,
+         t->recipe.version, t->lent[0].len, t->lent[1].len, t->lent[2].len);
 }
 
 /* A label is 35 to 37 bytes. */

@@ -172,5 +172,6 @@ bool tally_report(const tally *t)
     print_cases(t);
     bool complete = print_missing(t, lines) == 0;
     complete = forms_report(t->forms) && complete;
+    complete = version_report(&t->versions) && complete;
     return old_report(&t->olds) && complete;
 }

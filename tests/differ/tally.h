@@ -6,6 +6,7 @@
 
 #include "../second/second.h"
 #include "old_tally.h"
+#include "version_tally.h"
 
 enum function { JUDGE, LABEL_READER, TABLER, MAKER, LABEL_WRITER, COUNT, REPORT,
                 TRANSLATE, FUNCTIONS };
@@ -14,9 +15,8 @@ enum function { JUDGE, LABEL_READER, TABLER, MAKER, LABEL_WRITER, COUNT, REPORT,
 enum { ACCEPTED, SIZE, WORD, INSTRUCTION, START, EXEC, EXTENSION, BUS, LABEL,
        STUCK, ROOM, OPEN, SELF, ANSWER, GRID, EDITION, VERDICTS };
 
-/* The last place is that of a byte after the longest label. */
 enum { LAST_EXEC_RULE = 16, LAST_EXT_RULE = 21, LAST_STUCK_RULE = 8,
-       LAST_SIZE_PART = 5, LAST_PART = 4, LAST_PLACE = 37 };
+       LAST_SIZE_PART = 5, LAST_PART = 4 };
 
 /* What counts and reports must meet besides verdicts; names are in tally.c. */
 enum grid_case { FRESH_COUNTED, CARRIED, LIMIT_TAKEN, LIMIT_PASSED, SUM_WRAPS,
@@ -34,6 +34,7 @@ typedef struct {
     uint64_t cases[GRID_CASES];
     uint64_t forms[SECOND_COUNTERS]; /* rows that the library counted */
     old_tally olds;
+    version_tally versions;
 } tally;
 
 extern const char *const function_names[FUNCTIONS];

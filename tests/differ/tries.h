@@ -11,6 +11,7 @@ void try_label(differ *d);
 /* recipes.c: a recipe, in range or not, to the writer and to the maker. */
 second_recipe some_recipe(source *random, bool in_range);
 size_t some_answer_length(source *random);
+size_t some_recipe_length(source *random);
 void try_writer(differ *d);
 void try_maker(differ *d);
 

@@ -4,6 +4,8 @@
 #include <stdlib.h>
 #include <string.h>
 
+#include "seeds.h"
+
 static const size_t largest[PARTS] = {
     (size_t)MAX_FORMS * 4 * FORM_WORDS, (size_t)MAX_CELLS * 4,
     (size_t)MAX_ROWS * 4 * EXEC_WORDS, (size_t)MAX_ROWS * 4 * EXT_WORDS
@@ -44,15 +46,17 @@ static uint32_t some_height(source *random)
 
 static void make_by_recipe(differ *d, world *w)
 {
-    second_recipe r = { next_number(&d->random),
+    second_recipe r = { some_seed(&d->random),
                         once_in(&d->random, 8) ? 11 + below(&d->random, 2) : 10,
-                        1 + below(&d->random, 124) };
+                        1 + below(&d->random, 124),
+                        1 + below(&d->random, VERSIONS) };
     w->len[PROGRAM] = unit_of(PROGRAM) * (r.n + 1);
     w->len[MEMORY] = (size_t)4 << r.m;
     w->pc = w->fp = 0;
     second_make(r, w->bytes[PROGRAM], w->len[PROGRAM], w->bytes[MEMORY],
                 w->len[MEMORY]);
-    note(d, "recipe %" PRIx64 " m %" PRIu32 " n %" PRIu32, r.seed, r.m, r.n);
+    note(d, "recipe %" PRIx64 " m %" PRIu32 " n %" PRIu32 " version %" PRIu32,
+         r.seed, r.m, r.n, r.version);
 }
 
 void world_make(differ *d, world *w)

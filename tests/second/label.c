@@ -1,4 +1,4 @@
-/* Labels: four lines, v=1, seed, m and n. */
+/* Labels: four lines, v, seed, m and n. */
 #include "parts.h"
 #include "text.h"
 
@@ -72,16 +72,13 @@ second_answer second_read_label(const uint8_t *text, size_t len,
                                 second_recipe *out)
 {
     cursor c = { text, len, 0 };
-    second_recipe r = { 0, 0, 0 };
-    bool good = fixed(&c, "v=1\nseed=") && sixteen_hex(&c, &r.seed)
+    second_recipe r = { 0, 0, 0, 0 };
+    bool good = fixed(&c, "v=") && digit(&c, 1, 2, &r.version)
+             && fixed(&c, "\nseed=") && sixteen_hex(&c, &r.seed)
              && fixed(&c, "\nm=") && number_m(&c, &r.m)
              && fixed(&c, "\nn=") && number_n(&c, &r.n)
              && fixed(&c, "\n") && c.at == len;
-    if (!good) {
-        r.seed = 0;
-        r.m = r.n = 0;
-    }
-    *out = r;
+    *out = good ? r : (second_recipe){ 0, 0, 0, 0 };
     return good ? answer(ACCEPTED, 0, 0, 0) : answer(LABEL, 0, c.at, 0);
 }
 
@@ -97,9 +94,11 @@ second_answer second_write_label(second_recipe r, uint8_t *out, size_t len,
 {
     uint8_t label[LONGEST], *end = label;
     *length = 0;
-    if (r.m < 10 || r.m > 29 || r.n < 1 || r.n > 124)
+    if (!recipe_fits(r))
         return answer(SIZE, 0, 0, 0);
-    end = append(end, "v=1\nseed=");
+    end = append(end, "v=");
+    end = append_decimal(end, r.version);
+    end = append(end, "\nseed=");
     end = append_hex(end, r.seed);
     end = append(end, "\nm=");
     end = append_decimal(end, r.m);

@@ -10,6 +10,17 @@ static uint32_t draw(uint64_t *state)
     return (uint32_t)(*state >> 32);
 }
 
+/* Version 2 throws draws from 2p on away, which would make small words likelier
+ * than others, but takes the ninth whatever it is. */
+static uint32_t draw_cell(uint64_t *state, uint32_t version)
+{
+    uint32_t number = draw(state);
+    if (version == 2)
+        for (int thrown = 0; number >= 2 * P && thrown < 8; thrown++)
+            number = draw(state);
+    return number % P;
+}
+
 static uint32_t get(const uint8_t *memory, uint32_t index)
 {
     return load_word(memory + 4 * (size_t)index);
@@ -96,7 +107,7 @@ static form make_form(uint8_t *memory, uint64_t *state, uint32_t i)
 second_answer second_make(second_recipe r, uint8_t *program, size_t program_len,
                           uint8_t *memory, size_t memory_len)
 {
-    if (r.m < 10 || r.m > 29 || r.n < 1 || r.n > 124)
+    if (!recipe_fits(r))
         return answer(SIZE, 0, 0, 0);
     if (program_len != (size_t)FORM_BYTES * (r.n + 1))
         return answer(SIZE, 1, 0, 0);
@@ -104,7 +115,7 @@ second_answer second_make(second_recipe r, uint8_t *program, size_t program_len,
         return answer(SIZE, 2, 0, 0);
     memset(memory, 0, memory_len);
     for (uint32_t i = 0; i < 32; i++)
-        put(memory, i, draw(&r.seed) % P);
+        put(memory, i, draw_cell(&r.seed, r.version));
     for (uint32_t i = 0; i < r.n; i++) {
         form f = make_form(memory, &r.seed, i);
         store_form(program + (size_t)FORM_BYTES * i, &f);

@@ -141,6 +141,12 @@ static inline bool instructions_fit(uint64_t count)
     return count >= 1 && count <= (uint64_t)1 << 20;
 }
 
+static inline bool recipe_fits(second_recipe r)
+{
+    return (r.version == 1 || r.version == 2) && r.m >= 10 && r.m <= 29
+        && r.n >= 1 && r.n <= 124;
+}
+
 /* form.c: SIZE for parts 1 to 4; WORD for one part; INSTRUCTION. */
 second_answer second_sizes(size_t program_len, size_t memory_len,
                            size_t exec_len, size_t ext_len);

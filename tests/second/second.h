@@ -15,10 +15,11 @@ typedef struct {
     uint32_t verdict, part, place, rule;
 } second_answer;
 
-/* What a label names: the maker's seed, memory of 2^m cells, n instructions. */
+/* What a label names: the maker's seed, memory of 2^m cells, n instructions,
+ * and by which version cells are drawn, 1 or 2. */
 typedef struct {
     uint64_t seed;
-    uint32_t m, n;
+    uint32_t m, n, version;
 } second_recipe;
 
 /* Judges the two tables of a run that starts at pc, fp.  Writes nothing and

@@ -7,7 +7,7 @@
 #include "../differ/library.h"
 #include "../second/second.h"
 
-static uint8_t answer[16], recipe[16], grid[SECOND_GRID_BYTES];
+static uint8_t answer[16], recipe[20], grid[SECOND_GRID_BYTES];
 
 void expect(uint32_t verdict, uint32_t wanted, const char *what)
 {
@@ -84,13 +84,14 @@ uint32_t second_tables(job *j)
 uint32_t library_make(job *j)
 {
     speed_input *in = j->in;
-    return probe_make(j->seed, j->m, j->n, in->program, 48 * (j->n + 1), in->memory, (size_t)4 << j->m, answer, sizeof answer);
+    return probe_make(j->version, j->seed, j->m, j->n, in->program, 48 * (j->n + 1), in->memory, (size_t)4 << j->m,
+                      answer, sizeof answer);
 }
 
 uint32_t second_makes(job *j)
 {
     speed_input *in = j->in;
-    second_recipe r = {j->seed, j->m, j->n};
+    second_recipe r = {j->seed, j->m, j->n, j->version};
     return told(second_make(r, in->program, 48 * (j->n + 1), in->memory, (size_t)4 << j->m));
 }
 
@@ -128,6 +129,7 @@ uint32_t second_label(job *j)
     put_word(recipe + 4, (uint32_t)(r.seed >> 32));
     put_word(recipe + 8, r.m);
     put_word(recipe + 12, r.n);
+    put_word(recipe + 16, r.version);
     return told(a);
 }
 
@@ -148,5 +150,5 @@ uint32_t second_whole(job *j)
 
 size_t write_label(job *j, uint32_t n)
 {
-    return probe_write(0x0123456789abcdef, 10, n, j->text, sizeof j->text, answer, sizeof answer);
+    return probe_write(j->version, 0x0123456789abcdef, 10, n, j->text, sizeof j->text, answer, sizeof answer);
 }

@@ -10,7 +10,7 @@ typedef struct {
     speed_input *in;
     const uint8_t *ext; /* the extension table that is judged */
     uint64_t seed;
-    uint32_t m, n;
+    uint32_t m, n, version;
     uint8_t text[64]; /* a label */
     size_t text_len;
     size_t calls;    /* so many calls are timed as one */
@@ -22,7 +22,7 @@ typedef uint32_t (*call)(job *j);
 /* Ends the program where a verdict is another than was wanted. */
 void expect(uint32_t verdict, uint32_t wanted, const char *what);
 
-/* The label of a recipe with m 10 in `text`; its length. */
+/* The label of a recipe of the job's version with m 10 in `text`; its length. */
 size_t write_label(job *j, uint32_t n);
 
 uint32_t library_judge(job *j);

@@ -190,7 +190,7 @@ static void whole(void)
     speed_input in = speed_build(8, 8, 20, 1);
     static compared c[1];
     c[0] = (compared){.size = "m 10, n 124, H = K = 256", .units = 1};
-    c[0].j = (job){.in = &in, .ext = in.ext, .seed = 5, .m = 10, .n = 124, .calls = 64};
+    c[0].j = (job){.in = &in, .ext = in.ext, .seed = 5, .m = 10, .n = 124, .version = 1, .calls = 64};
     in.program_len = 48 * 125;
     in.memory_len = 4 << 10;
     compare("a label's whole way", c, 1, ROUNDS, library_whole, second_whole);
@@ -200,7 +200,7 @@ static void whole(void)
     speed_free(&in);
 }
 
-static void makers(void)
+static void makers(uint32_t version, const char *what)
 {
     static const uint32_t ms[SIZES] = {14, 17, 20}, ns[SIZES] = {31, 62, 124};
     static const char *const sizes[SIZES] = {"m 14, n 31", "m 17, n 62", "m 20, n 124"};
@@ -208,9 +208,10 @@ static void makers(void)
     speed_input in = speed_build(8, 8, 20, 1);
     for (int s = 0; s < SIZES; s++) {
         c[s] = (compared){.size = sizes[s], .units = (double)((size_t)1 << ms[s])};
-        c[s].j = (job){.in = &in, .seed = 5, .m = ms[s], .n = ns[s], .calls = s == 0 ? 64 : s == 1 ? 8 : 1};
+        c[s].j = (job){.in = &in, .seed = 5, .m = ms[s], .n = ns[s], .version = version};
+        c[s].j.calls = s == 0 ? 64 : s == 1 ? 8 : 1;
     }
-    compare("maker, each cell", c, SIZES, ROUNDS, library_make, second_makes);
+    compare(what, c, SIZES, ROUNDS, library_make, second_makes);
     speed_free(&in);
 }
 
@@ -235,17 +236,17 @@ static void translations(void)
     }
 }
 
-static void labels(void)
+static void labels(uint32_t version, const char *what)
 {
     static const uint32_t ns[SIZES] = {1, 62, 124};
     static const char *const sizes[SIZES] = {"n 1", "n 62", "n 124"};
     static compared c[SIZES];
     for (int s = 0; s < SIZES; s++) {
-        c[s] = (compared){.size = sizes[s], .j = {.seed = 1, .calls = 20000}};
+        c[s] = (compared){.size = sizes[s], .j = {.seed = 1, .version = version, .calls = 20000}};
         c[s].j.text_len = write_label(&c[s].j, ns[s]);
         c[s].units = (double)c[s].j.text_len;
     }
-    compare("label reader, each byte", c, SIZES, ROUNDS, library_label, second_label);
+    compare(what, c, SIZES, ROUNDS, library_label, second_label);
 }
 
 int main(void)
@@ -255,9 +256,11 @@ int main(void)
     halted();
     refused(0);
     refused(1);
-    makers();
+    makers(1, "maker, each cell");
+    makers(2, "maker, each cell, version 2");
     translations();
-    labels();
+    labels(1, "label reader, each byte");
+    labels(2, "label reader, each byte, version 2");
     whole();
     return over_budget;
 }

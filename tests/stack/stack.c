@@ -14,7 +14,8 @@ enum { ROOM = 256 << 10, PAINT = 0xa5, GROUP = 4 * 120 };
 
 static uint8_t *stack;
 static speed_input in, old;
-static uint8_t answer[16], recipe[16], text[64], grid[UISNABAR_GRID_BYTES], report_text[UISNABAR_REPORT_BYTES], written[8];
+static uint8_t answer[16], recipe[20], text[64], grid[UISNABAR_GRID_BYTES], report_text[UISNABAR_REPORT_BYTES];
+static uint8_t written[8];
 static int above; /* a call that is exported used more than the header says */
 
 static void *nothing(void *ext)
@@ -47,17 +48,21 @@ static void *translate(void *len)
     return NULL;
 }
 
-static void *label(void *unused)
+static size_t write_label(const uint32_t *version)
 {
-    uisnabar_label(text, probe_write(~UINT64_C(0), 29, 124, text, sizeof text, answer, sizeof answer), answer, sizeof answer, recipe,
-                   sizeof recipe);
-    return unused;
+    return probe_write(*version, ~UINT64_C(0), 29, 124, text, sizeof text, answer, sizeof answer);
 }
 
-static void *writer(void *unused)
+static void *label(void *version)
 {
-    probe_write(~UINT64_C(0), 29, 124, text, sizeof text, answer, sizeof answer);
-    return unused;
+    uisnabar_label(text, write_label(version), answer, sizeof answer, recipe, sizeof recipe);
+    return NULL;
+}
+
+static void *writer(void *version)
+{
+    write_label(version);
+    return NULL;
 }
 
 static void *tabler(void *unused)
@@ -66,11 +71,13 @@ static void *tabler(void *unused)
     return unused;
 }
 
-static void *maker(void *unused)
+/* Of a seed whose first eight draws version 2 throws away. */
+static void *maker(void *version)
 {
     static uint8_t program[48 * 125], memory[4 << 10];
-    probe_make(1, 10, 124, program, sizeof program, memory, sizeof memory, answer, sizeof answer);
-    return unused;
+    probe_make(*(uint32_t *)version, UINT64_C(0x00ffdb37cb0c5f43), 10, 124, program, sizeof program, memory,
+               sizeof memory, answer, sizeof answer);
+    return NULL;
 }
 
 /* How many bytes from the stack's top on a thread with this work touched. */
@@ -102,6 +109,13 @@ static size_t over_tables(void *(*work)(void *))
     used = most(used, touched(work, in.shuffled));
     memcpy(in.shuffled + (size_t)GROUP * 900, in.shuffled + (size_t)GROUP * 1200, GROUP);
     return most(used, touched(work, in.shuffled));
+}
+
+/* With recipes of either version. */
+static size_t over_versions(void *(*work)(void *))
+{
+    uint32_t versions[] = {1, 2};
+    return most(touched(work, &versions[0]), touched(work, &versions[1]));
 }
 
 /* From a fresh grid, and from a full one that is refused. */
@@ -161,9 +175,9 @@ int main(void)
     exported("uisnabar_count", of_count(), start, UISNABAR_COUNT_STACK_BYTES);
     exported("uisnabar_report", of_report(), start, UISNABAR_STACK_BYTES);
     exported("uisnabar_translate", of_translate(), start, UISNABAR_STACK_BYTES);
-    exported("uisnabar_label", touched(label, NULL), start, UISNABAR_STACK_BYTES);
-    line("label writer", touched(writer, NULL), start);
-    line("maker", touched(maker, NULL), start);
+    exported("uisnabar_label", over_versions(label), start, UISNABAR_STACK_BYTES);
+    line("label writer", over_versions(writer), start);
+    line("maker", over_versions(maker), start);
     speed_free(&in);
     speed_free(&old);
     return above;
