@@ -1,7 +1,6 @@
 -- A counter's name is four of the texts that the code has.
 -- Assumes nothing.
 use Prim.Native.Nat.{ℕ, zero, suc, _+_, _/_, _%_, _≤_, _<_}
-use mathlib.Core.Bool.{Bool, true, false, _&&_}
 use mathlib.Core.List.{_++_}
 use mathlib.Core.Logic.{⊎-elim}
 use mathlib.Core.Path.{_≡_, refl}
@@ -11,7 +10,8 @@ use borrow.Author.Needs.{needs}
 use borrow.Author.Tests.{leb-true}
 use lib.Dec.{leb}
 use lib.ListN.{length, getD, length-append}
-use Rattle.text_patterns.proofs.Order.{both}
+use Rattle.text_fields.specs.Digit.{every}
+use Rattle.text_fields.proofs.Every.{every-at}
 use Rattle.grid_spec.specs.Report.{kindText, modeText, dotted, equals, nameOf}
 use Rattle.grid_report.specs.Texts.{starts, textOf}
 
@@ -24,18 +24,6 @@ each : (P : ℕ → Type 0) (n : ℕ) → Each P n → (i : ℕ) → i < n → P
 unfolding Each
 each P zero all i h = absurd (not-suc-le-zero h)
 each P (suc n) all i h = ⊎-elim (λ e. rw e (all .0)) (λ l. each P n (all .1) i l) (eq-or-lt-of-le (le-of-suc-le-suc h))
-
--- a test that holds of every number below n, by computing
-every : (ℕ → Bool) → ℕ → Bool
-every f zero = true
-every f (suc n) = every f n && f n
-
-every-at : (f : ℕ → Bool) (n : ℕ) → every f n ≡ true → (i : ℕ) → i < n → f i ≡ true
-unfolding every
-every-at f zero e i h = absurd (not-suc-le-zero h)
-every-at f (suc n) e i h =
-    let p = both (every f n) (f n) e in
-    ⊎-elim (λ e. rw e (p .1)) (λ l. every-at f n (p .0) i l) (eq-or-lt-of-le (le-of-suc-le-suc h))
 
 pub in-order : (i : ℕ) → i < 11 → (getD starts i 0 ≤ getD starts (i + 1) 0) × (getD starts (i + 1) 0 ≤ 47)
 unfolding Each
@@ -67,4 +55,4 @@ module _ (k : ℕ) (h : k < 135) where
 
   pub name-most : length (nameOf k) ≤ 21
   unfolding nameOf every
-  name-most = leb-true (length (nameOf k)) 21 (every-at (λ j. leb (length (nameOf j)) 21) 135 refl k h)
+  name-most = leb-true (length (nameOf k)) 21 (every-at (λ j. leb (length (nameOf j)) 21) 135 k h refl)

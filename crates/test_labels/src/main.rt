@@ -17,12 +17,13 @@ fn show_answer(a: answer::Answer) {
     number(four.rule as u64);
 }
 
-// A line of seven numbers: verdict, part, place, rule, seed, m, n.
+// A line of eight numbers: verdict, part, place, rule, version, seed, m, n.
 fn show_reading(text: &[u8]) {
     let reading = label::read_label(text);
     let answer = reading.answer;
     let recipe = reading.recipe;
     show_answer(answer);
+    number(recipe.version as u64);
     number(recipe.seed);
     number(recipe.m as u64);
     number(recipe.n as u64);
@@ -70,34 +71,72 @@ fn show_written(recipe: Recipe, room: usize, bytes: &mut [u8]) {
     io::write_all(STDOUT_FILENO, b"\n");
 }
 
-fn show_writing(seed: u64, m: u32, n: u32, room: usize) {
+fn show_writing(version: u32, seed: u64, m: u32, n: u32, room: usize) {
     let mut bytes = [46u8; 48];
-    show_written(Recipe { seed, m, n }, room, &mut bytes);
+    let recipe = Recipe {
+        version,
+        seed,
+        m,
+        n,
+    };
+    show_written(recipe, room, &mut bytes);
 }
 
-fn show_writings() {
-    show_writing(0, 10, 1, 48);
-    show_writing(0, 10, 1, 35);
-    show_writing(0, 10, 1, 34);
-    show_writing(0x12fffffff, 10, 9, 48);
-    show_writing(0x2fffffff, 10, 10, 36);
-    show_writing(0xffffffff2fffffff, 19, 10, 35);
-    show_writing(0xffffffffffffffff, 20, 99, 48);
-    show_writing(0x0123456789abcdef, 29, 100, 37);
-    show_writing(0xfedcba9876543210, 29, 124, 37);
-    show_writing(0xfedcba9876543210, 29, 124, 36);
-    show_writing(0xfedcba9876543210, 29, 124, 0);
-    show_writing(1, 9, 1, 48);
-    show_writing(1, 30, 1, 48);
-    show_writing(1, 10, 0, 48);
-    show_writing(1, 10, 125, 48);
-    show_writing(1, 0, 0, 0);
-    show_writing(1, 4294967295, 4294967295, 48);
+fn show_first_version() {
+    show_writing(1, 0, 10, 1, 48);
+    show_writing(1, 0, 10, 1, 35);
+    show_writing(1, 0, 10, 1, 34);
+    show_writing(1, 0x12fffffff, 10, 9, 48);
+    show_writing(1, 0x2fffffff, 10, 10, 36);
+    show_writing(1, 0xffffffff2fffffff, 19, 10, 35);
+    show_writing(1, 0xffffffffffffffff, 20, 99, 48);
+    show_writing(1, 0x0123456789abcdef, 29, 100, 37);
+    show_writing(1, 0xfedcba9876543210, 29, 124, 37);
+    show_writing(1, 0xfedcba9876543210, 29, 124, 36);
+    show_writing(1, 0xfedcba9876543210, 29, 124, 0);
+    show_writing(1, 1, 9, 1, 48);
+    show_writing(1, 1, 30, 1, 48);
+    show_writing(1, 1, 10, 0, 48);
+    show_writing(1, 1, 10, 125, 48);
+    show_writing(1, 1, 0, 0, 0);
+    show_writing(1, 1, 4294967295, 4294967295, 48);
+}
+
+fn show_second_version() {
+    show_writing(2, 0, 10, 1, 48);
+    show_writing(2, 0, 10, 1, 35);
+    show_writing(2, 0, 10, 1, 34);
+    show_writing(2, 0x00ffdb37cb0c5f43, 10, 9, 48);
+    show_writing(2, 0x2fffffff, 10, 10, 36);
+    show_writing(2, 0xffffffff2fffffff, 19, 10, 35);
+    show_writing(2, 0xffffffffffffffff, 20, 99, 48);
+    show_writing(2, 0xfedcba9876543210, 29, 124, 37);
+    show_writing(2, 0xfedcba9876543210, 29, 124, 36);
+    show_writing(2, 0xfedcba9876543210, 29, 124, 0);
+    show_writing(2, 1, 9, 1, 48);
+    show_writing(2, 1, 30, 1, 48);
+    show_writing(2, 1, 10, 0, 48);
+    show_writing(2, 1, 10, 125, 48);
+}
+
+fn show_other_versions() {
+    show_writing(0, 1, 10, 1, 48);
+    show_writing(3, 1, 10, 1, 48);
+    show_writing(4294967295, 1, 10, 1, 48);
+    show_writing(2147483648, 1, 10, 1, 48);
+    show_writing(257, 1, 10, 1, 48);
+    show_writing(0, 1, 10, 1, 0);
+    show_writing(3, 1, 10, 1, 0);
+    show_writing(0, 0, 0, 0, 0);
+    show_writing(3, 1, 30, 125, 48);
+    show_writing(4294967295, 0xffffffffffffffff, 4294967295, 4294967295, 0);
 }
 
 fn main() {
     let mut space = io::large_buffer();
     let got = io::read_full(STDIN_FILENO, &mut space);
     show_readings(&space[..got]);
-    show_writings();
+    show_first_version();
+    show_second_version();
+    show_other_versions();
 }

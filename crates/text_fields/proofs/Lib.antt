@@ -1,6 +1,7 @@
 pub mod Tests
 pub mod Range
-pub mod Hex
+pub mod HexRanges
+pub mod Every
 pub mod NextDigit
 pub mod Standing
 pub mod OneDigit

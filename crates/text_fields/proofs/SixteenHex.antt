@@ -36,6 +36,13 @@ module _ (text : List ℕ) (i k x : ℕ) (h : k < 16) where
     unfolding digits
     hex-on e = rw more (parse-on Ok (λ b. digits 16 hexValue (16 - (k + 1)) (16 * x + hexValue b)) text i g e)
 
+    -- the same where the digits stand from a place on
+    pub hex-next : (at : ℕ) → at + k ≡ i → ltb (hexValue (getD text (at + k) 0)) 16 ≡ true
+        → parse (digits 16 hexValue (16 - k) x) (drop (at + k) text) ≡ parse (digits 16 hexValue (16 - (k + 1)) (16 * x + hexValue (getD text (at + k) 0))) (drop (at + (k + 1)) text)
+    hex-next at e d =
+        let j : at + (k + 1) ≡ i + 1 = omega arith in
+        rw (j, e) (hex-on (rw (← e) d))
+
   -- there is room for one digit more
   pub hex-room : x < 16 ^ k → x < 2 ^ 60
   hex-room small = omega (arith, pow-le-pow-right {n = 16} (lit< tt) {i = k} {j = 15} (omega arith))

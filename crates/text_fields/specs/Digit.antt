@@ -1,8 +1,10 @@
 -- Inner: what a byte is worth as a digit, and whether a number goes on with it.
 -- Declared in src/: Step (here).
-use Prim.Native.Nat.{ℕ, _+_, _-_, _*_}
-use mathlib.Core.Bool.{cond}
+use Prim.Native.Nat.{ℕ, zero, suc, _+_, _-_, _*_}
+use mathlib.Core.Bool.{Bool, true, cond, _&&_}
+use mathlib.Core.List.{List}
 use lib.Dec.{ltb, leb, eqb}
+use lib.ListN.{getD}
 use Rattle.text_fields.specs.declared.number.Step.{Step}
 use Rattle.text_fields.specs.declared.number.Step.the-variants.{On, End, Stop}
 
@@ -20,3 +22,12 @@ nextDigit x high end b =
     cond (eqb end b) End
     (cond (ltb (decimalValue b) 10)
     (cond (ltb 0 x) (cond (leb (10 * x + decimalValue b) high) (On (10 * x + decimalValue b)) Stop) Stop) Stop)
+
+-- a test holds of every number below n
+unfoldable pub every : (ℕ → Bool) → ℕ → Bool
+every f zero = true
+every f (suc n) = every f n && f n
+
+-- byte k from a place on is a hex digit
+abbrev pub hexAt : List ℕ → ℕ → ℕ → Bool
+hexAt text at k = ltb (hexValue (getD text (at + k) 0)) 16

@@ -1,19 +1,19 @@
 // A text's fields, one behind the other: each reader goes on from a cursor and stops at the first byte that its field
 // cannot have.
 mod digit;
+mod hex;
 mod number;
 
 use digit::decimal_value;
-use digit::is_hex;
-use digit::known_hex;
+pub use hex::read_hex;
 pub use number::read_number;
 ghost use mathlib.Core.Bool.{true};
 ghost use mathlib.Core.Path.{_≡_};
 ghost use Prim.Native.Nat.{_≤_, _<_};
 ghost use lib.ListN.{length};
 ghost use Rattle.text_patterns.specs.Pattern.{lit, done};
-ghost use Rattle.text_patterns.specs.Fields.{digits, one};
-ghost use Rattle.text_fields.specs.Digit.{hexValue, decimalValue};
+ghost use Rattle.text_patterns.specs.Fields.{one};
+ghost use Rattle.text_fields.specs.Digit.{decimalValue};
 ghost use Rattle.text_fields.specs.Field.{Behind};
 
 // How far a text is read: the last field's value, and the place behind it; or where the text leaves every valid one.
@@ -81,37 +81,6 @@ pub fn read_digit(text: &[u8], from: Cursor, low: u64, high: u64) -> Cursor
     Cursor {
         at: at + 1,
         value: d,
-        stopped: false,
-    }
-}
-
-// Sixteen lower-case hex digits, all 64 bits.
-pub fn read_hex(text: &[u8], from: Cursor) -> Cursor
-    requires { ⌜ from .at ≤ length (now text) ⌝ }
-    ensures { λ r. ⌜ Behind (digits 16 hexValue 16 0) (now (text .entry)) from r ⌝ }
-{
-    let at = from.at;
-    if from.stopped {
-        return stop_at(at);
-    }
-    let mut i = at;
-    let mut x = 0;
-    let mut k: usize = 0;
-    while k < 16 {
-        if text.len() <= i {
-            return stop_at(i);
-        }
-        let byte = text[i];
-        if !is_hex(byte) {
-            return stop_at(i);
-        }
-        x = 16 * x + known_hex(byte);
-        i += 1;
-        k += 1;
-    }
-    Cursor {
-        at: i,
-        value: x,
         stopped: false,
     }
 }

@@ -1,5 +1,5 @@
 -- `digit::is_hex` meets its contract: the two ranges are those of the hex digits.
-use Rattle.text_fields.proofs.Hex.{hex-ranges}
+use Rattle.text_fields.proofs.HexRanges.{hex-ranges}
 use Rattle.text_fields.proofs.digit.is_hex.Statement.{statement}
 use Rattle.text_fields.proofs.digit.is_hex.Tie as tie
 

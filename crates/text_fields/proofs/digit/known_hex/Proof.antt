@@ -1,5 +1,5 @@
 -- `digit::known_hex` meets its contract: the low four bits, and 9 more for a letter.
-use Rattle.text_fields.proofs.Hex.{hex-known}
+use Rattle.text_fields.proofs.HexRanges.{hex-known}
 use mathlib.Core.Path.{refl}
 use borrow.Author.Needs.{needs}
 use Rattle.text_fields.proofs.digit.known_hex.Statement.{statement}
