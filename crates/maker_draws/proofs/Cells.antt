@@ -1,4 +1,4 @@
--- The cells one by one: the state after each, the list of those drawn so far, and a cell of it.
+-- The cells one by one: the state after each, the list of those drawn so far, a cell of it, and all 32.
 -- Assumes nothing.
 use mathlib.Core.Path.{_≡_, refl, _∙_}
 use mathlib.Core.List.{List, [], _∷_}
@@ -12,7 +12,8 @@ use lib.Seq.{take-suc-set, getD-at}
 use Rattle.word.specs.Word.{p}
 use Rattle.word.specs.Bytes.{concatenated}
 use Rattle.word.proofs.Concatenated.{parts-length}
-use Rattle.maker_draws.specs.Drawn.{afterCell, afterCells, drawsOf, cellsDrawn}
+use Rattle.maker_draws.specs.declared.Begun.{Begun}
+use Rattle.maker_draws.specs.Drawn.{stateAfter, afterCell, afterCells, drawsOf, cellsDrawn, begunOf}
 
 module _ (version seed : ℕ) where
   pub after-cell : (k : ℕ) → afterCells version seed (k + 1) ≡ afterCell version (afterCells version seed k)
@@ -40,3 +41,15 @@ module _ (version seed : ℕ) where
       (λ (e : k ≡ n). rw e (getD-at (cellsDrawn version seed n) (drawsOf version seed .cell n) [] 0 n (cells-length n)))
       (λ (l : k < n). List·getD-append (cellsDrawn version seed n) (drawsOf version seed .cell n ∷ []) 0 k (rw (cells-length n) l) ∙ cell-at n k l)
       (eq-or-lt-of-le (le-of-suc-le-suc h))
+
+  -- what `begin` gives
+  module _ (b : Begun) (is : b ≡ begunOf version seed) where
+    pub begun-long : length (b .cells) ≡ 32
+    begun-long = rw is (cells-length 32)
+
+    pub begun-cell : (k : ℕ) → k < 32 → getD (b .cells) k 0 ≡ drawsOf version seed .cell k
+    begun-cell = rw is (cell-at 32)
+
+    pub begun-state : b .next .state ≡ stateAfter (afterCells version seed 32) 0
+    unfolding stateAfter
+    begun-state = rw is

@@ -1,4 +1,5 @@
--- First cells that were worked out by other means: no draw thrown away, one, eight, and a ninth that is at or above 2·p.
+-- Draws that were worked out by other means: for the first cell none thrown away, one, eight, and a ninth that is at or
+-- above 2·p.
 -- Assumes nothing.
 use mathlib.Core.Path.{_≡_, refl}
 use mathlib.Core.Bool.{false}
@@ -13,6 +14,11 @@ none-thrown = (refl, refl)
 pub one-thrown : (afterCells 2 107 1 ≡ stateAfter 107 2) × (drawsOf 2 107 .cell 0 ≡ 989706695)
 unfolding stateAfter again afterCells advance
 one-thrown = (refl, refl)
+
+-- no other of its cells throws one away, so its instructions are drawn from the state after 33 draws
+pub instructions-follow : (afterCells 2 107 32 ≡ stateAfter 107 33) × (drawsOf 2 107 .kind 0 ≡ 3) × (drawsOf 2 107 .a 0 ≡ 5) × (drawsOf 2 107 .c 0 ≡ 19)
+unfolding stateAfter again afterCells advance
+instructions-follow = (refl, refl, refl, refl)
 
 -- seed 00ffdb37cb0c5f43: the ninth draw, and in version 1 the first
 pub eight-thrown : (afterCells 2 72017151737487171 1 ≡ stateAfter 72017151737487171 9)

@@ -1,10 +1,11 @@
--- Version 1 draws what document 01 has, every draw kept; any two versions other than 1 draw alike.
+-- Version 1 draws what document 01 has, every draw kept; any two versions other than 1 draw alike; and all draw alike
+-- where a first number is below 2·p.
 -- Assumes nothing.
 use mathlib.Core.Path.{_≡_, refl, ap, _∙_}
-use mathlib.Core.Bool.{false}
+use mathlib.Core.Bool.{Bool, true, false, _||_}
 use Prim.Native.Nat.{ℕ, zero, suc, _+_, _*_, _/_, _%_, _^_}
 use native.Mathlib.Omega.{arith}
-use lib.Dec.{eqb}
+use lib.Dec.{ltb, eqb}
 use Rattle.word.specs.Word.{p}
 use Rattle.draw.specs.Draw.{advance}
 use Rattle.maker_draws.specs.Drawn.{stateAfter, drawn, again, afterCells, drawsOf}
@@ -28,6 +29,15 @@ first-plain seed =
       a = λ i. from (3 * i + 1) (33 + 3 * i) (omega arith) x % 32;
       c = λ i. from (3 * i + 2) (34 + 3 * i) (omega arith) x % 32;
     }
+
+-- a first number below 2·p is cell 0 in every version
+pub first-kept : (version seed : ℕ) → ltb (drawn seed 0) (2 * p) ≡ true → drawsOf version seed .cell 0 ≡ drawn seed 0 % p
+unfolding stateAfter again afterCells
+first-kept version seed h = rw (h, either-true (eqb version 1))
+  where
+    either-true : (b : Bool) → b || true ≡ true
+    either-true true = refl
+    either-true false = refl
 
 -- two versions that are not 1
 module _ (v w : ℕ) (later-v : eqb v 1 ≡ false) (later-w : eqb w 1 ≡ false) (seed : ℕ) where
