@@ -1,13 +1,13 @@
 -- The maker is not blind to its seed: the seed's upper half alone changes the first draw, always, in every version.
 -- Assumes nothing.
 use mathlib.Core.Path.{_≡_, refl, sym, ap, _∙_}
-use mathlib.Core.Bool.{true, false}
+use mathlib.Core.Bool.{false}
 use mathlib.Core.List.{List}
 use Prim.Native.Nat.{ℕ, _+_, _*_, _/_, _%_, _^_, _<_}
 use native.Mathlib.Omega.{arith}
 use borrow.Author.Tests.{eqb-false}
 use lib.Pow.{pow-pos}
-use lib.Dec.{ltb, eqb, lit<}
+use lib.Dec.{eqb, lit<}
 use Rattle.word.specs.Word.{p}
 use Rattle.word.specs.Bytes.{wordAt}
 use Rattle.label.specs.declared.Recipe.{Recipe}
@@ -54,19 +54,19 @@ module _ (m n : ℕ) where
 
   -- which is the first draw modulo p where that is below 2·p, whatever the versions
   module _ (v w : ℕ) where
-    told-apart : (x y : ℕ) → ltb (drawn x 0) (2 * p) ≡ true → ltb (drawn y 0) (2 * p) ≡ true → eqb (drawn x 0 % p) (drawn y 0 % p) ≡ false
+    told-apart : (x y : ℕ) → drawn x 0 < 2 * p → drawn y 0 < 2 * p → eqb (drawn x 0 % p) (drawn y 0 % p) ≡ false
         → memoryOf (made v x) ≡ memoryOf (made w y) → ⊥
     told-apart x y kx ky differ e = eqb-false (drawn x 0 % p) (drawn y 0 % p) differ (sym (first-kept v x kx) ∙ first-cell v w x y e ∙ first-kept w y ky)
 
     -- 000000002fffffff, 000000012fffffff and ffffffff2fffffff: three memories
     pub low-middle : memoryOf (made v 805306367) ≡ memoryOf (made w 5100273663) → ⊥
     unfolding stateAfter advance
-    low-middle = told-apart 805306367 5100273663 refl refl refl
+    low-middle = told-apart 805306367 5100273663 (lit< tt) (lit< tt) refl
 
     pub low-high : memoryOf (made v 805306367) ≡ memoryOf (made w 18446744070219890687) → ⊥
     unfolding stateAfter advance
-    low-high = told-apart 805306367 18446744070219890687 refl refl refl
+    low-high = told-apart 805306367 18446744070219890687 (lit< tt) (lit< tt) refl
 
     pub middle-high : memoryOf (made v 5100273663) ≡ memoryOf (made w 18446744070219890687) → ⊥
     unfolding stateAfter advance
-    middle-high = told-apart 5100273663 18446744070219890687 refl refl refl
+    middle-high = told-apart 5100273663 18446744070219890687 (lit< tt) (lit< tt) refl

@@ -1,15 +1,16 @@
--- Version 1 draws what document 01 has, every draw kept; any two versions other than 1 draw alike; and all draw alike
--- where a first number is below 2·p.
+-- Version 1 draws what document 01 has, every draw kept; any two versions other than 1 draw alike; and a first number
+-- below 2·p is cell 0 in all of them.
 -- Assumes nothing.
-use mathlib.Core.Path.{_≡_, refl, ap, _∙_}
-use mathlib.Core.Bool.{Bool, true, false, _||_}
-use Prim.Native.Nat.{ℕ, zero, suc, _+_, _*_, _/_, _%_, _^_}
+use mathlib.Core.Path.{_≡_, refl, sym, ap, _∙_}
+use mathlib.Core.Bool.{false}
+use Prim.Native.Nat.{ℕ, zero, suc, _+_, _*_, _/_, _%_, _^_, _<_}
 use native.Mathlib.Omega.{arith}
-use lib.Dec.{ltb, eqb}
+use lib.Dec.{eqb}
 use Rattle.word.specs.Word.{p}
 use Rattle.draw.specs.Draw.{advance}
-use Rattle.maker_draws.specs.Drawn.{stateAfter, drawn, again, afterCells, drawsOf}
+use Rattle.maker_draws.specs.Drawn.{stateAfter, drawn, again, afterCell, afterCells, drawsOf}
 use Rattle.maker_draws.specs.Plain.{plainDraws}
+use Rattle.maker_draws.proofs.Again.{low}
 use Rattle.maker_draws.proofs.Drawing.{drawn-more}
 
 -- version 1 keeps every number
@@ -31,13 +32,9 @@ first-plain seed =
     }
 
 -- a first number below 2·p is cell 0 in every version
-pub first-kept : (version seed : ℕ) → ltb (drawn seed 0) (2 * p) ≡ true → drawsOf version seed .cell 0 ≡ drawn seed 0 % p
-unfolding stateAfter again afterCells
-first-kept version seed h = rw (h, either-true (eqb version 1))
-  where
-    either-true : (b : Bool) → b || true ≡ true
-    either-true true = refl
-    either-true false = refl
+pub first-kept : (version seed : ℕ) → drawn seed 0 < 2 * p → drawsOf version seed .cell 0 ≡ drawn seed 0 % p
+unfolding stateAfter afterCells
+first-kept version seed h = ap (λ (x : ℕ). x % p) (sym (low version (advance seed) (drawn seed 0) 0 (afterCell version seed) refl refl h .0))
 
 -- two versions that are not 1
 module _ (v w : ℕ) (later-v : eqb v 1 ≡ false) (later-w : eqb w 1 ≡ false) (seed : ℕ) where

@@ -34,7 +34,7 @@ fn draw_cell(version: u32, generator: Generator) -> Drawn
 {
     let mut drawn = generator.draw();
     let mut thrown: u32 = 0;
-    while (thrown < 8) & !((version == 1) | (drawn.number < EVEN)) {
+    while thrown < 8 && version != 1 && drawn.number >= EVEN {
         let next = drawn.next;
         drawn = next.draw();
         thrown += 1;
