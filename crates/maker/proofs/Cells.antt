@@ -12,7 +12,7 @@ use Rattle.word.proofs.Lists.{_∷≡_}
 use Rattle.form.specs.declared.Kind.{Kind}
 use Rattle.form.specs.declared.Op.{Op}
 use Rattle.machine.specs.Extension.{elementAt, leftAt, termOf, joined, result}
-use Rattle.maker.specs.Drawn.{Draws}
+use Rattle.maker_draws.specs.Drawn.{Draws}
 use Rattle.maker.specs.Made.{kindPicked, opPicked, bePicked, countPicked, slotCells, slotCell, cellOf}
 use Rattle.maker.specs.Inner.{eight}
 use Rattle.maker.proofs.Making.{by-kind}

@@ -11,7 +11,7 @@ use lib.Seq.{length-take-le}
 use Rattle.word.specs.Bytes.{bytesOf}
 use Rattle.form.specs.declared.Instruction.{Instruction}
 use Rattle.form.specs.Instruction.{instructionWords}
-use Rattle.maker.specs.Drawn.{Draws}
+use Rattle.maker_draws.specs.Drawn.{Draws}
 use Rattle.maker.specs.Made.{kindPicked, made, jumpTo, instructionMade, slotCells, cellOf}
 use Rattle.maker.specs.Inner.{cellIn, eight}
 use Rattle.maker.specs.Bytes.{wordBytes, instructionsOf, cellsOf}

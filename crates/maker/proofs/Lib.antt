@@ -1,5 +1,4 @@
 pub mod Parts
-pub mod Drawing
 pub mod Making
 pub mod Cells
 pub mod Filling
@@ -7,4 +6,5 @@ pub mod Answers
 pub mod WellFormed
 pub mod ReadBack
 pub mod Seeds
+pub mod Versions
 pub mod Determined

@@ -11,9 +11,8 @@ use Rattle.word.specs.Bytes.{wordAt, bytesOf, concatenated}
 use Rattle.word.proofs.FourBytes.{read-bytes}
 use Rattle.form.specs.Instruction.{instructionAt, instructionWords}
 use Rattle.label.specs.declared.Recipe.{Recipe}
-use Rattle.maker.specs.Drawn.{drawsOf}
 use Rattle.maker.specs.Made.{instructionMade, cellOf}
-use Rattle.maker.specs.Bytes.{wordBytes, programOf, memoryOf}
+use Rattle.maker.specs.Bytes.{wordBytes, recipeDraws, programOf, memoryOf}
 use Rattle.word.proofs.Concatenated.{word-in}
 use Rattle.maker.proofs.Parts.{words-length}
 use Rattle.maker.proofs.WellFormed.{drawable, program-words, cell-word}
@@ -23,20 +22,20 @@ word-of : (w : ℕ → ℕ) (n k : ℕ) → k < n → IsWord (w k) → wordAt (c
 word-of w n k h small =
     (rw (add-zero (4 * k)) at (word-in (λ j. bytesOf (w j)) 4 (λ j. refl) n k 0 h (lit< tt))) ∙ read-bytes (w k) (omega arith)
 
-pub cell-read : (r : Recipe) (k : ℕ) → k < 2 ^ r .m → wordAt (memoryOf r) (4 * k) ≡ cellOf (drawsOf (r .seed)) (r .n) k
-cell-read r k h = word-of (cellOf (drawsOf (r .seed)) (r .n)) (2 ^ r .m) k h (cell-word (drawsOf (r .seed)) (drawable (r .seed)) (r .n) k)
+pub cell-read : (r : Recipe) (k : ℕ) → k < 2 ^ r .m → wordAt (memoryOf r) (4 * k) ≡ cellOf (recipeDraws r) (r .n) k
+cell-read r k h = word-of (cellOf (recipeDraws r) (r .n)) (2 ^ r .m) k h (cell-word (recipeDraws r) (drawable (r .version) (r .seed)) (r .n) k)
 
 pub memory-word : (r : Recipe) (k : ℕ) → k < 2 ^ r .m → IsWord (wordAt (memoryOf r) (4 * k))
-memory-word r k h = rw (cell-read r k h) (cell-word (drawsOf (r .seed)) (drawable (r .seed)) (r .n) k)
+memory-word r k h = rw (cell-read r k h) (cell-word (recipeDraws r) (drawable (r .version) (r .seed)) (r .n) k)
 
 module _ (r : Recipe) (most : r .n ≤ 124) (i : ℕ) (h : i ≤ r .n) where
-  word-read : (j : ℕ) → j < 12 → wordAt (programOf r) (48 * i + 4 * j) ≡ getD (instructionWords (instructionMade (drawsOf (r .seed)) (r .n) i)) j 0
+  word-read : (j : ℕ) → j < 12 → wordAt (programOf r) (48 * i + 4 * j) ≡ getD (instructionWords (instructionMade (recipeDraws r) (r .n) i)) j 0
   word-read j b =
-      let ws = instructionWords (instructionMade (drawsOf (r .seed)) (r .n) i) in
-      word-in (λ k. wordBytes (instructionWords (instructionMade (drawsOf (r .seed)) (r .n) k))) 48 (λ k. words-length (instructionWords (instructionMade (drawsOf (r .seed)) (r .n) k))) (r .n + 1) i (4 * j) (omega arith) (omega arith)
-      ∙ word-of (λ k. getD ws k 0) 12 j b (program-words (drawsOf (r .seed)) (drawable (r .seed)) (r .n) most i h j)
+      let ws = instructionWords (instructionMade (recipeDraws r) (r .n) i) in
+      word-in (λ k. wordBytes (instructionWords (instructionMade (recipeDraws r) (r .n) k))) 48 (λ k. words-length (instructionWords (instructionMade (recipeDraws r) (r .n) k))) (r .n + 1) i (4 * j) (omega arith) (omega arith)
+      ∙ word-of (λ k. getD ws k 0) 12 j b (program-words (recipeDraws r) (drawable (r .version) (r .seed)) (r .n) most i h j)
 
-  pub instruction-read : instructionAt (programOf r) (48 * i) ≡ instructionMade (drawsOf (r .seed)) (r .n) i
+  pub instruction-read : instructionAt (programOf r) (48 * i) ≡ instructionMade (recipeDraws r) (r .n) i
   unfolding instructionAt
   instruction-read =
       rw (
@@ -57,4 +56,4 @@ module _ (r : Recipe) (most : r .n ≤ 124) (i : ℕ) (h : i ≤ r .n) where
 pub program-word : (r : Recipe) → r .n ≤ 124 → (k : ℕ) → k < 12 * (r .n + 1) → IsWord (wordAt (programOf r) (4 * k))
 program-word r most k h =
     let e : 4 * k ≡ 48 * (k / 12) + 4 * (k % 12) = omega arith in
-    rw (e, word-read r most (k / 12) (omega arith) (k % 12) (omega arith)) (program-words (drawsOf (r .seed)) (drawable (r .seed)) (r .n) most (k / 12) (omega arith) (k % 12))
+    rw (e, word-read r most (k / 12) (omega arith) (k % 12) (omega arith)) (program-words (recipeDraws r) (drawable (r .version) (r .seed)) (r .n) most (k / 12) (omega arith) (k % 12))

@@ -1,16 +1,19 @@
--- The maker is not blind to its seed: the seed's upper half alone changes the first draw, always.
+-- The maker is not blind to its seed: the seed's upper half alone changes the first draw, always, in every version.
 -- Assumes nothing.
 use mathlib.Core.Path.{_≡_, refl, sym, ap, _∙_}
+use mathlib.Core.Bool.{false}
 use mathlib.Core.List.{List}
 use Prim.Native.Nat.{ℕ, _+_, _*_, _/_, _%_, _^_, _<_}
 use native.Mathlib.Omega.{arith}
 use borrow.Author.Tests.{eqb-false}
 use lib.Pow.{pow-pos}
-use lib.Dec.{lit<}
+use lib.Dec.{eqb, lit<}
+use Rattle.word.specs.Word.{p}
 use Rattle.word.specs.Bytes.{wordAt}
 use Rattle.label.specs.declared.Recipe.{Recipe}
 use Rattle.draw.specs.Draw.{advance}
-use Rattle.maker.specs.Drawn.{stateAfter, drawn, drawsOf}
+use Rattle.maker_draws.specs.Drawn.{stateAfter, drawn, drawsOf}
+use Rattle.maker_draws.proofs.Versions.{first-kept}
 use Rattle.maker.specs.Bytes.{memoryOf}
 use Rattle.maker.proofs.ReadBack.{cell-read}
 use Rattle.maker.proofs.Cells.{drawn-cell}
@@ -38,25 +41,32 @@ upper-half seed d low high e =
     let apart : 6364136223846793005 * (seed + 2 ^ 32 * d) + 1442695040888963407 ≡ 6364136223846793005 * seed + 1442695040888963407 + 2 ^ 32 * (6364136223846793005 * d) = omega arith in
     odd d low high (shows (6364136223846793005 * seed + 1442695040888963407) (6364136223846793005 * d) (rw apart at e))
 
--- two recipes with one memory have the same cell 0, the first draw modulo p
+-- two recipes with one memory have the same cell 0
 module _ (m n : ℕ) where
-  abbrev made : ℕ → Recipe
-  made seed = record { seed = seed; m = m; n = n }
+  abbrev pub made : ℕ → ℕ → Recipe
+  made version seed = record { version = version; seed = seed; m = m; n = n }
 
-  pub first-cell : (x y : ℕ) → memoryOf (made x) ≡ memoryOf (made y) → drawsOf x .cell 0 ≡ drawsOf y .cell 0
-  first-cell x y e =
-      let some : 0 < 2 ^ m = pow-pos m in
-      sym (cell-read (made x) 0 some ∙ drawn-cell (drawsOf x) n 0 (lit< tt)) ∙ ap (λ (s : List ℕ). wordAt s 0) e ∙ cell-read (made y) 0 some ∙ drawn-cell (drawsOf y) n 0 (lit< tt)
+  pub first-cell : (v w x y : ℕ) → memoryOf (made v x) ≡ memoryOf (made w y) → drawsOf v x .cell 0 ≡ drawsOf w y .cell 0
+  first-cell v w x y e = sym (read v x) ∙ ap (λ (s : List ℕ). wordAt s 0) e ∙ read w y
+    where
+      read : (version seed : ℕ) → wordAt (memoryOf (made version seed)) 0 ≡ drawsOf version seed .cell 0
+      read version seed = cell-read (made version seed) 0 (pow-pos m) ∙ drawn-cell (drawsOf version seed) n 0 (lit< tt)
 
-  -- 000000002fffffff, 000000012fffffff and ffffffff2fffffff: three memories
-  pub low-middle : memoryOf (made 805306367) ≡ memoryOf (made 5100273663) → ⊥
-  unfolding stateAfter advance
-  low-middle e = eqb-false (drawsOf 805306367 .cell 0) (drawsOf 5100273663 .cell 0) refl (first-cell 805306367 5100273663 e)
+  -- which is the first draw modulo p where that is below 2·p, whatever the versions
+  module _ (v w : ℕ) where
+    told-apart : (x y : ℕ) → drawn x 0 < 2 * p → drawn y 0 < 2 * p → eqb (drawn x 0 % p) (drawn y 0 % p) ≡ false
+        → memoryOf (made v x) ≡ memoryOf (made w y) → ⊥
+    told-apart x y kx ky differ e = eqb-false (drawn x 0 % p) (drawn y 0 % p) differ (sym (first-kept v x kx) ∙ first-cell v w x y e ∙ first-kept w y ky)
 
-  pub low-high : memoryOf (made 805306367) ≡ memoryOf (made 18446744070219890687) → ⊥
-  unfolding stateAfter advance
-  low-high e = eqb-false (drawsOf 805306367 .cell 0) (drawsOf 18446744070219890687 .cell 0) refl (first-cell 805306367 18446744070219890687 e)
+    -- 000000002fffffff, 000000012fffffff and ffffffff2fffffff: three memories
+    pub low-middle : memoryOf (made v 805306367) ≡ memoryOf (made w 5100273663) → ⊥
+    unfolding stateAfter advance
+    low-middle = told-apart 805306367 5100273663 (lit< tt) (lit< tt) refl
 
-  pub middle-high : memoryOf (made 5100273663) ≡ memoryOf (made 18446744070219890687) → ⊥
-  unfolding stateAfter advance
-  middle-high e = eqb-false (drawsOf 5100273663 .cell 0) (drawsOf 18446744070219890687 .cell 0) refl (first-cell 5100273663 18446744070219890687 e)
+    pub low-high : memoryOf (made v 805306367) ≡ memoryOf (made w 18446744070219890687) → ⊥
+    unfolding stateAfter advance
+    low-high = told-apart 805306367 18446744070219890687 (lit< tt) (lit< tt) refl
+
+    pub middle-high : memoryOf (made v 5100273663) ≡ memoryOf (made w 18446744070219890687) → ⊥
+    unfolding stateAfter advance
+    middle-high = told-apart 5100273663 18446744070219890687 (lit< tt) (lit< tt) refl

@@ -17,7 +17,7 @@ use Rattle.form.specs.declared.Kind.{Kind}
 use Rattle.word.proofs.Tests.{by-test}
 use Rattle.form.proofs.DataLaws.{written}
 use Rattle.form.specs.Instruction.{instructionWords}
-use Rattle.maker.specs.Drawn.{Draws, drawsOf}
+use Rattle.maker_draws.specs.Drawn.{Draws, drawsOf}
 use Rattle.maker.specs.Made.{opPicked, bePicked, countPicked, kindPicked, made, instructionMade, slotCells, cellOf}
 use Rattle.maker.proofs.Making.{by-kind, data-small, result-element}
 
@@ -35,8 +35,8 @@ pub record Drawable (d : Draws) : Type 0 where
   pub a : (i : ℕ) → d .a i < 32
   pub c : (i : ℕ) → d .c i < 32
 
-pub drawable : (seed : ℕ) → Drawable (drawsOf seed)
-drawable seed = record { cells = λ k. mod-lt _ (lit< tt); a = λ i. mod-lt _ (lit< tt); c = λ i. mod-lt _ (lit< tt) }
+pub drawable : (version seed : ℕ) → Drawable (drawsOf version seed)
+drawable version seed = record { cells = λ k. mod-lt _ (lit< tt); a = λ i. mod-lt _ (lit< tt); c = λ i. mod-lt _ (lit< tt) }
 
 module _ (d : Draws) (is : Drawable d) (n : ℕ) where
   pub program-words : n ≤ 124 → (i : ℕ) → i ≤ n → (k : ℕ) → IsWord (getD (instructionWords (instructionMade d n i)) k 0)

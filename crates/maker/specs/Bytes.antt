@@ -1,7 +1,7 @@
 -- Document 01, "Draws, recipe, label" and "Verdicts" SIZE parts 0 to 2: the maker's answer, and both buffers at return.
 -- Declared in src/: Answer (answer); Recipe (label).
 use mathlib.Core.Bool.{Bool, cond, _&&_}
-use mathlib.Core.List.{List, [], _∷_}
+use mathlib.Core.List.{List}
 use Prim.Native.Nat.{ℕ, _+_, _*_, _^_}
 use lib.ListN.{length, getD}
 use lib.Dec.{eqb}
@@ -11,7 +11,7 @@ use Rattle.answer.specs.declared.Answer.{Answer}
 use Rattle.answer.specs.declared.Answer.the-variants.{Accepted, Size}
 use Rattle.label.specs.Label.{ranged}
 use Rattle.label.specs.declared.Recipe.{Recipe}
-use Rattle.maker.specs.Drawn.{Draws, drawsOf}
+use Rattle.maker_draws.specs.Drawn.{Draws, drawsOf}
 use Rattle.maker.specs.Made.{instructionMade, cellOf}
 
 -- four bytes for each word
@@ -25,11 +25,15 @@ instructionsOf d n k = concatenated (λ i. wordBytes (instructionWords (instruct
 abbrev pub cellsOf : Draws → ℕ → ℕ → List ℕ
 cellsOf d n k = concatenated (λ j. bytesOf (cellOf d n j)) k
 
+-- what is drawn for a recipe, as its version has it (document 02, M-103), and the two buffers that it makes
+abbrev pub recipeDraws : Recipe → Draws
+recipeDraws r = drawsOf (r .version) (r .seed)
+
 abbrev pub programOf : Recipe → List ℕ
-programOf r = instructionsOf (drawsOf (r .seed)) (r .n) (r .n + 1)
+programOf r = instructionsOf (recipeDraws r) (r .n) (r .n + 1)
 
 abbrev pub memoryOf : Recipe → List ℕ
-memoryOf r = cellsOf (drawsOf (r .seed)) (r .n) (2 ^ r .m)
+memoryOf r = cellsOf (recipeDraws r) (r .n) (2 ^ r .m)
 
 -- parts 0, 1 and 2, the lowest that fails
 abbrev pub sizesFit : Recipe → ℕ → ℕ → Bool

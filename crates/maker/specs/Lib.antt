@@ -1,4 +1,3 @@
-pub mod Drawn
 pub mod Made
 pub mod Inner
 pub mod Bytes

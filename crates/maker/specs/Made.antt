@@ -14,7 +14,7 @@ use Rattle.form.specs.declared.Kind.the-variants.{Add, Mul, Deref, Jump, Extens
 use Rattle.form.specs.declared.Op.{Op}
 use Rattle.form.specs.declared.Op.the-variants as op
 use Rattle.machine.specs.Extension.{result}
-use Rattle.maker.specs.Drawn.{Draws}
+use Rattle.maker_draws.specs.Drawn.{Draws}
 
 -- T
 abbrev pub slot : ℕ → ℕ

@@ -1,5 +1,4 @@
 // A recipe, to a program and a memory: document 01, "Draws, recipe, label".
-mod draws;
 mod elements;
 mod instructions;
 mod slots;
@@ -38,6 +37,6 @@ pub fn make(recipe: Recipe, program: &mut [u8], memory: &mut [u8]) -> Answer
     if memory.len() != memory_size(recipe.m) {
         return Answer::Size { part: 2, place: 0 };
     }
-    fill(recipe.seed, recipe.n, program, memory);
+    fill(recipe.version, recipe.seed, recipe.n, program, memory);
     Answer::Accepted
 }

@@ -1,10 +1,10 @@
 // Both buffers, front to back, each byte once.
-use crate::draws::Three;
-use crate::draws::begin;
-use crate::draws::draw_three;
 use crate::instructions::halt_words;
 use crate::instructions::made_words;
 use crate::slots::slot_words;
+use maker_draws::Three;
+use maker_draws::begin;
+use maker_draws::draw_three;
 use word::clear;
 use word::put_word;
 ghost use mathlib.Core.Path.{_≡_};
@@ -12,7 +12,7 @@ ghost use mathlib.Core.List.{_++_};
 ghost use Prim.Native.Nat.{_+_, _-_, _*_, _/_, _%_, _≤_, _<_};
 ghost use lib.ListN.{length, take, drop};
 ghost use Rattle.form.specs.Instruction.{instructionWords};
-ghost use Rattle.maker.specs.Drawn.{drawsOf};
+ghost use Rattle.maker_draws.specs.Drawn.{drawsOf};
 ghost use Rattle.maker.specs.Made.{kindPicked, made, slotCells};
 ghost use Rattle.maker.specs.Inner.{cellIn, eight};
 ghost use Rattle.maker.specs.Bytes.{wordBytes, instructionsOf, cellsOf};
@@ -60,14 +60,14 @@ fn put_one(cells: &[u32; 32], i: u32, drawn: Three, program: &mut [u8], memory: 
 }
 
 // The drawn cells, then each instruction with its slot.
-fn put_all(seed: u64, n: u32, program: &mut [u8], memory: &mut [u8])
+fn put_all(version: u32, seed: u64, n: u32, program: &mut [u8], memory: &mut [u8])
     requires { ⌜ (n ≤ 124) × (48 * n ≤ length (now program)) × (128 + 32 * n ≤ length (now memory)) ⌝ }
     ensures { λ _. ⌜
-        (now (program .exit) ≡ instructionsOf (drawsOf seed) n n ++ drop (48 * n) (now (program .entry)))
-        × (now (memory .exit) ≡ cellsOf (drawsOf seed) n (32 + 8 * n) ++ drop (128 + 32 * n) (now (memory .entry)))
+        (now (program .exit) ≡ instructionsOf (drawsOf version seed) n n ++ drop (48 * n) (now (program .entry)))
+        × (now (memory .exit) ≡ cellsOf (drawsOf version seed) n (32 + 8 * n) ++ drop (128 + 32 * n) (now (memory .entry)))
         ⌝ }
 {
-    let begun = begin(seed);
+    let begun = begin(version, seed);
     let drawn = begun.cells;
     let mut generator = begun.next;
     let first = 0;
@@ -84,7 +84,7 @@ fn put_all(seed: u64, n: u32, program: &mut [u8], memory: &mut [u8])
 }
 
 // All of both buffers; past the slots the memory is 0.
-pub(crate) fn fill(seed: u64, n: u32, program: &mut [u8], memory: &mut [u8])
+pub(crate) fn fill(version: u32, seed: u64, n: u32, program: &mut [u8], memory: &mut [u8])
     requires { ⌜
         (n ≤ 124)
         × (length (now program) ≡ 48 * (n + 1))
@@ -92,11 +92,11 @@ pub(crate) fn fill(seed: u64, n: u32, program: &mut [u8], memory: &mut [u8])
         × (length (now memory) % 4 ≡ 0)
         ⌝ }
     ensures { λ _. ⌜
-        (now (program .exit) ≡ instructionsOf (drawsOf seed) n (n + 1))
-        × (now (memory .exit) ≡ cellsOf (drawsOf seed) n (length (now (memory .entry)) / 4))
+        (now (program .exit) ≡ instructionsOf (drawsOf version seed) n (n + 1))
+        × (now (memory .exit) ≡ cellsOf (drawsOf version seed) n (length (now (memory .entry)) / 4))
         ⌝ }
 {
-    put_all(seed, n, &mut *program, &mut *memory);
+    put_all(version, seed, n, &mut *program, &mut *memory);
     let last = 48 * (n as usize);
     let words = halt_words(n);
     put_words(&words, &mut program[last..]);

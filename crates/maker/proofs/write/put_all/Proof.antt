@@ -1,8 +1,8 @@
--- The invariant: the state is the one after 32 + 3i draws, i instructions and 32 + 8i cells stand at the front of their
+-- The invariant: the state is the one 3i draws after the cells, i instructions and 32 + 8i cells stand at the front of their
 -- buffers, and behind them what stood there. The measure is the instructions left. The laws of Filling take what they
 -- need: an `omega` here would read every place before it.
 use mathlib.Core.List.{_++_}
-use mathlib.Core.Path.{refl, _≡_, sym, _∙_}
+use mathlib.Core.Path.{refl, _≡_, ap, _∙_}
 use Prim.Native.Nat.{_+_, _-_, _*_, _≤_}
 use native.Mathlib.Omega.{arith}
 use borrow.Author.Needs.{needs}
@@ -10,41 +10,44 @@ use lib.ListN.{length, drop}
 use Rattle.word.specs.Bytes.{concatenated}
 use Rattle.maker.proofs.Filling.{program-on, memory-on, begun-room, begun-lent, cells-begun, first-length, program-room, memory-room, below, fewer, next-below}
 use Rattle.maker.specs.Bytes.{instructionsOf, cellsOf}
-use Rattle.maker.proofs.Drawing.{kind-drawn, a-drawn, c-drawn, after-three}
+use Rattle.maker_draws.proofs.Drawing.{three-drawn}
+use Rattle.maker_draws.proofs.Cells.{begun-long, begun-cell, begun-state}
+use Rattle.maker_draws.specs.declared.Three.{Three}
 use Rattle.maker.proofs.Parts.{behind}
-use Rattle.maker.specs.Drawn.{stateAfter, drawsOf}
+use Rattle.maker_draws.specs.Drawn.{stateAfter, afterCells, drawsOf}
 use Rattle.maker.proofs.write.put_all.Statement.{statement}
 use Rattle.maker.proofs.write.put_all.Tie as tie
 
 abbrev Inv-loop : tie.InvT-loop
-Inv-loop seed n program₀ memory₀ drawn generator₀ first end i₀ program memory generator i =
+Inv-loop version seed n program₀ memory₀ drawn generator₀ first end i₀ program memory generator i =
     (i ≤ n)
     × (length program ≡ length program₀)
     × (length memory ≡ length memory₀)
-    × (generator .state ≡ stateAfter seed (32 + 3 * i))
-    × (program ≡ instructionsOf (drawsOf seed) n i ++ drop (48 * i) program₀)
-    × (memory ≡ cellsOf (drawsOf seed) n (32 + 8 * i) ++ drop (128 + 32 * i) memory₀)
+    × (generator .state ≡ stateAfter (afterCells version seed 32) (3 * i))
+    × (program ≡ instructionsOf (drawsOf version seed) n i ++ drop (48 * i) program₀)
+    × (memory ≡ cellsOf (drawsOf version seed) n (32 + 8 * i) ++ drop (128 + 32 * i) memory₀)
 
 abbrev μ-loop : tie.MeasureT-loop
-μ-loop seed n program₀ memory₀ drawn generator₀ first end i₀ program memory generator i = n - i
+μ-loop version seed n program₀ memory₀ drawn generator₀ first end i₀ program memory generator i = n - i
 
 put-words-requires : tie.Need-put-words-requires Inv-loop μ-loop
 put-words-requires c κs =
     let s = c .before .before .before .before .before .before .before in
-    begun-lent (s .args .memory .now) (s .args .n) (s .pre .2) ∙ rw (c .before .before .before .before .begin .ensures .2)
+    begun-lent (s .args .memory .now) (s .args .n) (s .pre .2) ∙ rw (begun-long _ _ _ (c .before .before .before .before .begin .ensures))
 
 loop-holds : tie.Need-loop-holds Inv-loop μ-loop
 unfolding concatenated
 loop-holds c =
     let s = c .before .before .before .before .before .before .before .before .before .before .args in
     let begun = c .before .before .before .before .before .before .before .begin in
-    let long : length (begun .result .cells) ≡ 32 = begun .ensures .2 in (
+    let long = begun-long _ _ _ (begun .ensures) in
+    let cells = begun-cell _ _ _ (begun .ensures) in (
       omega arith,
       refl,
       refl,
-      begun .ensures .1,
+      begun-state _ _ _ (begun .ensures),
       refl,
-      cells-begun (drawsOf (s .seed)) (s .n) (s .memory .now) (begun .result .cells) (c .before .before .put-words .last .1 .0) long (begun .ensures .0) (c .before .before .put-words .ensures),
+      cells-begun (drawsOf (s .version) (s .seed)) (s .n) (s .memory .now) (begun .result .cells) (c .before .before .put-words .last .1 .0) long cells (c .before .before .put-words .ensures),
     )
 
 put-one-requires : tie.Need-put-one-requires Inv-loop μ-loop
@@ -55,11 +58,11 @@ put-one-requires c κs =
     let e = c .before .before .before .draw-three .ensures in
     let begun = c .before .before .before .before .before .before .before .before .before .before .before .before .before .begin in
     let first = c .before .before .before .before .before .before .before .before .put-words in
-    let long : length (begun .result .cells) ≡ 32 = begun .ensures .2 in
-    let room = begun-room (drawsOf (s .args .seed)) (s .args .n) (s .args .memory .now) (begun .result .cells) long (first .ensures) (s .pre .2) in (
+    let long = begun-long _ _ _ (begun .ensures) in
+    let room = begun-room (drawsOf (s .args .version) (s .args .seed)) (s .args .n) (s .args .memory .now) (begun .result .cells) long (first .ensures) (s .pre .2) in (
       fewer (l .i) (s .args .n) t (s .pre .0),
-      below (c .before .before .before .draw-three .result .a) _ (e .1),
-      below (c .before .before .before .draw-three .result .c) _ (e .2),
+      below (c .before .before .before .draw-three .result .a) _ (ap (λ (t : Three). t .a) e),
+      below (c .before .before .before .draw-three .result .c) _ (ap (λ (t : Three). t .c) e),
       program-room (l .i) (s .args .n) (length (s .args .program .now)) (length (l .program)) t (s .pre .1) (l .inv .1),
       memory-room (l .i) (s .args .n) (length (first .last .1 .0 ++ drop 128 (s .args .memory .now))) (length (l .memory)) t room (l .inv .2),
     )
@@ -69,26 +72,28 @@ loop-again c =
     let l = c .before .before .before .before .before .before .before .before .before .before .before .loop in
     let t = c .before .before .before .before .before .before .before .before .before .before .loop-test .taken in
     let s = c .before .before .before .before .before .before .before .before .before .before .before .before .before .before .before .before .before .before .before .before .before .before in
+    let version = s .args .version in
     let seed = s .args .seed in
     let n = s .args .n in
     let begun = c .before .before .before .before .before .before .before .before .before .before .before .before .before .before .before .before .before .before .before .begin in
     let first = c .before .before .before .before .before .before .before .before .before .before .before .before .before .before .put-words in
-    let e = c .before .before .before .before .before .before .before .before .before .draw-three .ensures in
+    let e = c .before .before .before .before .before .before .before .before .before .draw-three .ensures ∙ three-drawn version seed (l .i) (l .generator) (l .inv .3) in
     let d = c .before .before .before .before .before .before .before .before .before .draw-three .result in
     let put = c .before .before .before .before .before .put-one .ensures in
-    let long : length (begun .result .cells) ≡ 32 = begun .ensures .2 in
-    let kind : d .kind ≡ drawsOf seed .kind (l .i) = (rw (l .inv .3) at (e .0)) ∙ sym (kind-drawn seed (l .i)) in
-    let a : d .a ≡ drawsOf seed .a (l .i) = (rw (l .inv .3) at (e .1)) ∙ sym (a-drawn seed (l .i)) in
-    let c' : d .c ≡ drawsOf seed .c (l .i) = (rw (l .inv .3) at (e .2)) ∙ sym (c-drawn seed (l .i)) in
-    let room = begun-room (drawsOf seed) n (s .args .memory .now) (begun .result .cells) long (first .ensures) (s .pre .2) in
-    let program = program-on (drawsOf seed) n (l .i) (d .kind) (d .a) (d .c) t kind a c' (s .args .program .now) (l .program) (s .pre .1) (l .inv .4) (put .0) in
+    let long = begun-long _ _ _ (begun .ensures) in
+    let cells = begun-cell _ _ _ (begun .ensures) in
+    let kind = ap (λ (t : Three). t .kind) e in
+    let a = ap (λ (t : Three). t .a) e in
+    let c' = ap (λ (t : Three). t .c) e in
+    let room = begun-room (drawsOf version seed) n (s .args .memory .now) (begun .result .cells) long (first .ensures) (s .pre .2) in
+    let program = program-on (drawsOf version seed) n (l .i) (d .kind) (d .a) (d .c) t kind a c' (s .args .program .now) (l .program) (s .pre .1) (l .inv .4) (put .0) in
     let memory =
-    memory-on (drawsOf seed) n (l .i) (d .kind) (d .a) (d .c) t kind a c' (begun .result .cells) (begun .ensures .0) (below (d .a) _ (e .1)) (below (d .c) _ (e .2))
+    memory-on (drawsOf version seed) n (l .i) (d .kind) (d .a) (d .c) t kind a c' (begun .result .cells) cells (below (d .a) _ a) (below (d .c) _ c')
     (first .last .1 .0 ++ drop 128 (s .args .memory .now)) (l .memory) room (l .inv .5) (put .1) in (
       next-below (l .i) n t,
       program .0,
       memory .0,
-      (rw (l .inv .3) at (e .3)) ∙ sym (after-three seed (l .i)),
+      ap (λ (t : Three). t .next .state) e,
       program .1,
       memory .1,
     )
@@ -99,9 +104,9 @@ returns c =
     let s = c .before .before .before .before .before .before .before .before .before .before .before .before .args in
     let begun = c .before .before .before .before .before .before .before .before .before .begin in
     let first = c .before .before .before .before .put-words in
-    let long : length (begun .result .cells) ≡ 32 = begun .ensures .2 in
+    let long = begun-long _ _ _ (begun .ensures) in
     let e : s .n ≡ l .i = omega arith in
-    let front = first-length (drawsOf (s .seed)) (s .n) (begun .result .cells) long (first .ensures) in (
+    let front = first-length (drawsOf (s .version) (s .seed)) (s .n) (begun .result .cells) long (first .ensures) in (
       rw e (l .inv .4),
       l .inv .5 ∙ rw (e, behind (s .memory .now) (first .last .1 .0) 128 (128 + 32 * l .i) front (omega arith)),
     )
