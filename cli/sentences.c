@@ -135,14 +135,38 @@ void report_sentence(FILE *out, const uint8_t grid[UISNABAR_GRID_BYTES])
     fputc('\n', out);
 }
 
+/* what each line of a label must be */
+static const char *const label_lines[] = {
+    "v=1 or v=2 (versions 1 and 2 are known)",
+    "seed= and 16 lower-case hex digits",
+    "m= and a number from 10 to 29",
+    "n= and a number from 1 to 124, without leading zeros",
+};
+enum { LABEL_LINES = sizeof label_lines / sizeof label_lines[0] };
+
+/* of the line in which a text leaves every valid label: each line before it is whole */
+static void line_sentence(FILE *out, struct bytes text, size_t place)
+{
+    size_t line = 0;
+    for (size_t at = 0; at < place; at++)
+        line += text.at[at] == '\n';
+    if (line < LABEL_LINES)
+        fprintf(out, "line %zu must be %s, and end with LF\n", line + 1, label_lines[line]);
+    else
+        fprintf(out, "nothing may follow line %zu\n", line);
+}
+
 void label_sentence(FILE *out, struct bytes text, struct answer answer, const uint8_t *recipe)
 {
     fprintf(out, "%s: ", uisnabar_name(answer.verdict));
-    if (answer.verdict == UISNABAR_ACCEPTED)
-        fprintf(out, "a label of seed %08x%08x, m %u and n %u\n", word_at(recipe + 4), word_at(recipe), word_at(recipe + 8),
-                word_at(recipe + 12));
-    else if (answer.place < text.len)
-        fprintf(out, "the first %u bytes begin a valid label, and the next, 0x%02x, fits none\n", answer.place, text.at[answer.place]);
+    if (answer.verdict == UISNABAR_ACCEPTED) {
+        fprintf(out, "a label of version %u, seed %08x%08x, m %u and n %u\n", word_at(recipe + 16), word_at(recipe + 4), word_at(recipe),
+                word_at(recipe + 8), word_at(recipe + 12));
+        return;
+    }
+    if (answer.place < text.len)
+        fprintf(out, "the first %u bytes begin a valid label, and the next, 0x%02x, fits none: ", answer.place, text.at[answer.place]);
     else
-        fprintf(out, "the text ends after %u bytes, where every valid label that begins so goes on\n", answer.place);
+        fprintf(out, "the text ends after %u bytes, where every valid label that begins so goes on: ", answer.place);
+    line_sentence(out, text, answer.place);
 }

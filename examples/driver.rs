@@ -18,7 +18,7 @@ extern "C" {
 
 // UISNABAR_ANSWER_BYTES and UISNABAR_RECIPE_BYTES of the header
 const ANSWER_BYTES: usize = 16;
-const RECIPE_BYTES: usize = 16;
+const RECIPE_BYTES: usize = 20;
 const NAMES: [&str; 9] = ["ACCEPTED", "SIZE", "WORD", "INSTRUCTION", "START", "EXEC", "EXTENSION", "BUS", "LABEL"];
 const ACCEPTED: u32 = 0;
 const ANSWER: u32 = 13;
@@ -69,7 +69,8 @@ fn label(path: &str) -> Result<(Answer, String)> {
     let (answer, recipe) = read_label(&std::fs::read(path)?);
     let mut text = shown(&answer);
     if answer.verdict == ACCEPTED {
-        text += &format!("seed {:016x} m {} n {}\n", number(&recipe[..8]), number(&recipe[8..12]), number(&recipe[12..16]));
+        let (seed, m, n, version) = (number(&recipe[..8]), number(&recipe[8..12]), number(&recipe[12..16]), number(&recipe[16..]));
+        text += &format!("version {version} seed {seed:016x} m {m} n {n}\n");
     }
     Ok((answer, text))
 }

@@ -22,10 +22,10 @@
 #include <stdint.h>
 
 /* The version of this header and of the library it was made for. */
-#define UISNABAR_VERSION "1.2.0"
+#define UISNABAR_VERSION "2.0.0"
 /* The length of `answer`, and of `recipe`. Later versions may ask for more: use these names, and no number. */
 #define UISNABAR_ANSWER_BYTES 16
-#define UISNABAR_RECIPE_BYTES 16
+#define UISNABAR_RECIPE_BYTES 20
 /* The length of `grid` and of `written`, and of the longest report that there is. */
 #define UISNABAR_GRID_BYTES 1080
 #define UISNABAR_WRITTEN_BYTES 8
@@ -157,13 +157,20 @@ uint32_t uisnabar_translate(const uint8_t *old, size_t old_len, uint8_t *program
 
 /* The label reader.
  *
- *   text     the whole label: `v=1`, `seed=` with 16 lower-case hex digits, `m=` (10 to 29), `n=` (1 to 124), each line
- *            ended by LF
+ *   text     the whole label: `v=1` or `v=2`, `seed=` with 16 lower-case hex digits, `m=` (10 to 29), `n=` (1 to 124),
+ *            each line ended by LF
  *   answer   UISNABAR_ANSWER_BYTES, written on every verdict but ANSWER
- *   recipe   UISNABAR_RECIPE_BYTES: seed (8 bytes), m and n (4 each), little-endian; written on ACCEPTED alone, else as
- *            it was
+ *   recipe   UISNABAR_RECIPE_BYTES, little-endian: bytes 0 to 7 the seed, 8 to 11 m, 12 to 15 n, 16 to 19 the version,
+ *            1 or 2; written on ACCEPTED alone, else as it was
  *
- * Returns ACCEPTED, LABEL, or ANSWER where answer_len or recipe_len is another; nothing is written then.
+ * The version says how cells 0 to 31 are drawn, and nothing else. 1: each cell is one draw modulo p. 2: a draw at or
+ * above 4,261,412,866 = 2·p is thrown away and drawn again, for each cell at most eight times; the ninth is taken
+ * whatever it is; the one taken counts modulo p. The instructions' draws follow from the state that the generator then
+ * has. So a driver that builds the program and memory itself looks at the version first, and refuses one that it does
+ * not know.
+ *
+ * Returns ACCEPTED, LABEL, or ANSWER where answer_len or recipe_len is another; nothing is written then. LABEL's place
+ * is measured against labels of both versions: a text that begins with `v=3` leaves them at place 2.
  */
 uint32_t uisnabar_label(const uint8_t *text, size_t text_len, uint8_t *answer, size_t answer_len,
                         uint8_t *recipe, size_t recipe_len);

@@ -1,9 +1,9 @@
 """docs/VERDICTS.md says of each rule what the definitions, the command and the second implementation say.
 
 Rule numbers and order, and the columns that a rule reads, are those of crates/rules/specs; the draft's formulas,
-evaluated on drawn words, are the polynomials of tests/oracle.py; the plain words are cli/sentences.c's, the layouts
-cli/layout.c's; its forms are those that the second implementation finds possible; every definition and theorem named
-there and in docs/DISPUTE.md is in the file named."""
+evaluated on drawn words, are the polynomials of tests/oracle.py; the plain words are cli/sentences.c's, a label's lines
+too, the layouts cli/layout.c's; its forms are those that the second implementation finds possible; every definition and
+theorem named there and in docs/DISPUTE.md is in the file named."""
 import itertools
 import pathlib
 import re
@@ -184,6 +184,14 @@ def sentences(array):
     return {int(number): (reading == "true", words) for number, reading, words in entries}
 
 
+def label_lines():
+    """A label's lines in the page's words and in the command's."""
+    text = (ROOT / "cli/sentences.c").read_text()
+    told = re.findall(r'"(.+)"', re.search(r"label_lines\[\] = \{(.+?)\};", text, re.S)[1])
+    if [[str(number), words] for number, words in enumerate(told, 1)] != table("Versions of a label"):
+        yield f"Versions of a label: cli/sentences.c has {told}"
+
+
 def layouts():
     text = (ROOT / "cli/layout.c").read_text()
     arrays = [re.findall(r'\{"(.+?)", \d\}', array) for array in re.findall(r"struct column \w+\[\] = (.+?);", text, re.S)]
@@ -226,7 +234,7 @@ def named_definitions():
 def main():
     faults = [*against_specs("Execution rules", "Execution.antt", "execRules", EXEC, sentences("execution")),
               *against_specs("Extension rules", "Extension.antt", "extRules", EXT, sentences("extension")),
-              *layouts(), *forms(), *named_definitions()]
+              *label_lines(), *layouts(), *forms(), *named_definitions()]
     faults += [] if faults else dict.fromkeys(formulas())
     print("\n".join(faults) or "docs/VERDICTS.md has every rule as it is")
     return 1 if faults else 0

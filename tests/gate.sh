@@ -94,7 +94,7 @@ driver() {
 rust_driver() {
     rustc -O -L target/staticlib -l static=uisnabar -o target/c/rust-driver examples/driver.rs &&
         [ "$(run table <shelf/seed-0.label | target/c/rust-driver)" = "ACCEPTED part 0 place 0 rule 0" ] &&
-        [ "$(target/c/rust-driver shelf/upper-half-all.label | tail -n 1)" = "seed ffffffff2fffffff m 10 n 124" ]
+        [ "$(target/c/rust-driver shelf/upper-half-all.label | tail -n 1)" = "version 1 seed ffffffff2fffffff m 10 n 124" ]
 }
 
 header() {

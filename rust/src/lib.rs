@@ -12,8 +12,8 @@
 //! assert_eq!(uisnabar::count(&[], &[], 0, 0, &[], &[], &mut grid), Err(refusal));
 //! assert_eq!(uisnabar::report(&grid).unwrap(), "");
 //! assert_eq!(uisnabar::translate(&[0; 56]).unwrap_err().to_string(), "EDITION part 0 place 0 rule 0");
-//! let recipe = uisnabar::read_label(b"v=1\nseed=000000012fffffff\nm=10\nn=12\n").unwrap();
-//! assert_eq!((recipe.seed, recipe.m, recipe.n), (0x1_2fff_ffff, 10, 12));
+//! let recipe = uisnabar::read_label(b"v=2\nseed=000000012fffffff\nm=10\nn=12\n").unwrap();
+//! assert_eq!((recipe.version, recipe.seed, recipe.m, recipe.n), (2, 0x1_2fff_ffff, 10, 12));
 //! ```
 
 use std::error::Error;
@@ -31,7 +31,7 @@ pub const GRID_BYTES: usize = 1080;
 pub const REPORT_BYTES: usize = 5076;
 
 const ANSWER_BYTES: usize = 16;
-const RECIPE_BYTES: usize = 16;
+const RECIPE_BYTES: usize = 20;
 const WRITTEN_BYTES: usize = 8;
 // An instruction of draft 0.5.0 and of draft 0.6.0, and how many a program may have.
 const OLD_INSTRUCTION: usize = 56;
@@ -153,6 +153,8 @@ pub const FRESH: Grid = [0; GRID_BYTES];
 /// What a label stands for.
 #[derive(Clone, Copy, Debug, PartialEq, Eq, Hash)]
 pub struct Recipe {
+    /// 1 or 2: how cells 0 to 31 are drawn (include/uisnabar.h). A program that draws them itself refuses any other.
+    pub version: u32,
     pub seed: u64,
     pub m: u32,
     pub n: u32,
@@ -264,7 +266,17 @@ pub fn translate(old: &[u8]) -> Result<Vec<u8>, Refusal> {
     Ok(program)
 }
 
-/// The recipe that a label stands for, or LABEL and how long a prefix it shares with a valid one.
+/// The recipe that a buffer holds: seed, m, n and, last, the version.
+fn recipe_of(bytes: &[u8; RECIPE_BYTES]) -> Recipe {
+    Recipe {
+        version: number(&bytes[16..20]),
+        seed: u64::from(number(&bytes[4..8])) << 32 | u64::from(number(&bytes[..4])),
+        m: number(&bytes[8..12]),
+        n: number(&bytes[12..16]),
+    }
+}
+
+/// The recipe that a label of either version stands for, or LABEL and how long a prefix it shares with a valid one.
 pub fn read_label(text: &[u8]) -> Result<Recipe, Refusal> {
     let (mut answer, mut recipe) = ([0; ANSWER_BYTES], [0; RECIPE_BYTES]);
     // SAFETY: each pointer comes with its slice's length, and the two buffers that are written are this call's own.
@@ -272,8 +284,7 @@ pub fn read_label(text: &[u8]) -> Result<Recipe, Refusal> {
         uisnabar_label(text.as_ptr(), text.len(), answer.as_mut_ptr(), answer.len(), recipe.as_mut_ptr(), recipe.len())
     };
     outcome(verdict, &answer)?;
-    let seed = u64::from(number(&recipe[4..8])) << 32 | u64::from(number(&recipe[..4]));
-    Ok(Recipe { seed, m: number(&recipe[8..12]), n: number(&recipe[12..16]) })
+    Ok(recipe_of(&recipe))
 }
 
 #[cfg(test)]
@@ -290,6 +301,13 @@ mod tests {
     fn the_numbers_are_little_endian() {
         let answer = [5, 0, 0, 0, 3, 0, 0, 0, 1, 2, 3, 4, 16, 0, 0, 0];
         assert_eq!(outcome(5, &answer), Err(Refusal { verdict: 5, part: 3, place: 0x0403_0201, rule: 16 }));
+    }
+
+    #[test]
+    fn a_recipe_has_its_version_last() {
+        let bytes = [1, 2, 3, 4, 5, 6, 7, 8, 29, 0, 0, 0, 124, 0, 0, 0, 9, 10, 11, 12];
+        let wanted = Recipe { version: 0x0c0b_0a09, seed: 0x0807_0605_0403_0201, m: 29, n: 124 };
+        assert_eq!(recipe_of(&bytes), wanted);
     }
 
     #[test]

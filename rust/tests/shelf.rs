@@ -6,7 +6,7 @@ use std::fs::{self, File};
 use std::path::{Path, PathBuf};
 use std::process::{Command, Stdio};
 
-use uisnabar::{count, judge, read_label, report, Grid, Refusal, FRESH, NAMES};
+use uisnabar::{count, judge, read_label, report, Grid, Recipe, Refusal, FRESH, NAMES};
 
 const MEMORY: usize = 4096;
 const EXEC: usize = 32 * 256;
@@ -78,7 +78,8 @@ fn every_label_is_read_as_recorded() {
         match read_label(&text) {
             Ok(recipe) => {
                 assert!(read, "{}", label.display());
-                let again = format!("v=1\nseed={:016x}\nm={}\nn={}\n", recipe.seed, recipe.m, recipe.n);
+                let Recipe { version, seed, m, n } = recipe;
+                let again = format!("v={version}\nseed={seed:016x}\nm={m}\nn={n}\n");
                 assert_eq!(again.as_bytes(), text, "{}", label.display());
             }
             Err(refusal) => {

@@ -8,7 +8,8 @@
 
 enum { MOST = 1200, UNTOUCHED = 0xa5 };
 
-static const char text[] = "v=1\nseed=000000012fffffff\nm=10\nn=12\n";
+static char text[] = "v=1\nseed=0123456789abcdef\nm=29\nn=124\n";
+enum { VERSION = 2 }; /* the byte of it that is its version */
 /* an instruction of draft 0.5.0 and of draft 0.6.0: an ADD of cells 1 and 3 that gives cell 2 */
 static const uint8_t old[56] = {[0] = 1, [4] = 2, [8] = 3, [24] = 1}, program[48] = {[0] = 1, [4] = 2, [8] = 3, [40] = 1};
 static struct {
@@ -136,6 +137,19 @@ static void longest(void)
     }
 }
 
+/* A label of each version, known or not: the answer, and the recipe byte by byte. */
+static void labels(void)
+{
+    for (text[VERSION] = '0'; text[VERSION] <= '3'; text[VERSION]++) {
+        memset(&lent, UNTOUCHED, sizeof lent);
+        uint32_t verdict = label_recipe(UISNABAR_RECIPE_BYTES);
+        printf("label v=%c %s place %d recipe ", text[VERSION], uisnabar_name(verdict), lent.answer[8]);
+        for (size_t i = 0; i < UISNABAR_RECIPE_BYTES; i++)
+            printf("%02x", lent.recipe[i]);
+        puts(untouched(lent.recipe + UISNABAR_RECIPE_BYTES, MOST - UISNABAR_RECIPE_BYTES) ? "" : " and beyond");
+    }
+}
+
 int main(void)
 {
     lengths("judge's answer", judge_answer);
@@ -145,8 +159,11 @@ int main(void)
     lengths("report's written", report_written);
     lengths("report's answer", report_answer);
     lengths("translate's answer", translate_answer);
-    lengths("label's answer", label_answer);
-    lengths("label's recipe", label_recipe);
+    for (text[VERSION] = '1'; text[VERSION] <= '2'; text[VERSION]++) {
+        lengths("label's answer", label_answer);
+        lengths("label's recipe", label_recipe);
+    }
+    labels();
     longest();
     translations();
     for (uint32_t verdict = 0; strcmp(uisnabar_name(verdict), "unknown") != 0; verdict++)

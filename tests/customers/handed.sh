@@ -9,7 +9,7 @@ rust_figure() { sed -n "s/^\(pub \)\?const $2: usize = \([0-9]*\);$/\2/p" "$1"; 
 
 # lengths: what tests/customers/figures.c must find, by the header's figures: the one length of each buffer that has one
 lengths() {
-    local name
+    local name kept
     echo "length judge's answer $(figure answer) SIZE"
     echo "length count's grid $(figure grid) SIZE"
     echo "length count's answer $(figure answer) SIZE"
@@ -17,8 +17,16 @@ lengths() {
         echo "length report's $name $(figure "$name") SIZE"
     done
     echo "length translate's answer $(figure answer) ACCEPTED"
-    echo "length label's answer $(figure answer) ACCEPTED"
-    echo "length label's recipe $(figure recipe) ACCEPTED"
+    for name in v=1 v=2; do
+        echo "length label's answer $(figure answer) ACCEPTED"
+        echo "length label's recipe $(figure recipe) ACCEPTED"
+    done
+    # seed, m, n and, last, the version; what the buffer held where the label is refused
+    kept=$(printf 'a5%.0s' {1..20})
+    echo "label v=0 LABEL place 2 recipe $kept"
+    echo "label v=1 ACCEPTED place 0 recipe efcdab89674523011d0000007c00000001000000"
+    echo "label v=2 ACCEPTED place 0 recipe efcdab89674523011d0000007c00000002000000"
+    echo "label v=3 LABEL place 2 recipe $kept"
     echo "longest ACCEPTED written $(figure report) place 0"
     echo "longest SIZE written 0 place $(figure report)"
     echo "room one 48 ACCEPTED place 0"
@@ -31,7 +39,7 @@ figures() {
     local file name number
     compile "$work/figures-program" -Iinclude tests/customers/figures.c target/staticlib/libuisnabar.a &&
         emulated "$work/figures-program" >"$work/figures" || fault "the program that reads the header's figures failed"
-    equal "lengths that the library takes" "$(grep '^length\|^longest\|^room\|^instructions' "$work/figures")" "$(lengths)"
+    equal "lengths that the library takes" "$(grep '^length\|^label\|^longest\|^room\|^instructions' "$work/figures")" "$(lengths)"
     for number in "${!verdicts[@]}"; do
         echo "verdict $number ${verdicts[number]}"
     done | cmp -s - <(grep ^verdict "$work/figures") || fault "the header has other verdicts than tools/answers.sh"
@@ -68,6 +76,11 @@ answer_named() {
     said_file <(echo ANSWER)
     gives 1 "$work/spoiled-rust" shelf/seed-0.label
     said_file <(echo ANSWER)
+    # the recipe's length before 2.0.0
+    sed "s/^const RECIPE_BYTES: usize = .*/const RECIPE_BYTES: usize = 16;/" examples/driver.rs >"$spoiled/driver.rs"
+    gives 0 rustc -O -L target/staticlib -l static=uisnabar -o "$work/spoiled-rust" "$spoiled/driver.rs"
+    gives 1 "$work/spoiled-rust" shelf/seed-0.label
+    said_file <(echo ANSWER)
 }
 
 # no exported function uses more stack than the header says
@@ -86,6 +99,16 @@ stack_figure() {
 # small WORDS..: words below 256 as a part has them
 small() { printf "$(printf '\\%o\\0\\0\\0' "$@")"; }
 
+# reads PREFIX: the command there says a label's version, and which there are
+reads() {
+    printf 'v=2\nseed=000000012fffffff\nm=10\nn=12\n' >"$work/label"
+    gives 0 emulated "$1/bin/uisnabar" label "$work/label"
+    complained 'ACCEPTED: a label of version 2, seed 000000012fffffff, m 10 and n 12'
+    printf 'v=3\nseed=000000012fffffff\nm=10\nn=12\n' >"$work/label"
+    gives 1 emulated "$1/bin/uisnabar" label "$work/label"
+    complained 'line 1 must be v=1 or v=2 (versions 1 and 2 are known)'
+}
+
 # translates PREFIX: the command there writes a MUL of draft 0.5.0 by fp, and a refused program leaves what was written
 translates() {
     small 1 2 3 0 0 1 0 1 0 0 0 0 0 0 >"$work/old"
@@ -99,7 +122,7 @@ translates() {
 }
 
 # holds_tree PREFIX: a driver compiled by pkg-config judges; the programs answer the shelf, and the command counts its
-# forms and translates; all as in the repository
+# forms, translates and reads labels; all as in the repository
 holds_tree() {
     local doc=$1/share/doc/uisnabar shelf=$1/share/uisnabar/shelf flags label
     flags=$(PKG_CONFIG_PATH=$1/lib/pkgconfig pkg-config --cflags --libs uisnabar) || fault "pkg-config knows no uisnabar"
@@ -118,6 +141,7 @@ holds_tree() {
     gives 0 emulated "$1/bin/uisnabar" report "$work/tree-grid"
     said_file "$work/report"
     translates "$1"
+    reads "$1"
     for label in VERDICTS.md CHANGELOG.md driver.rs; do
         [ -s "$doc/$label" ] || fault "$doc has no $label"
     done
