@@ -1,16 +1,16 @@
 -- The label's pattern, read field by field.
 -- Assumes nothing.
-use Prim.Native.Nat.{ℕ, _+_, _*_}
+use Prim.Native.Nat.{ℕ, _+_, _*_, _≤_}
 use mathlib.Core.Bool.{true, false, cond}
 use mathlib.Core.List.{List, _∷_}
 use mathlib.Core.Path.{_≡_, _∙_}
 use native.Mathlib.Omega.{arith}
-use lib.ListN.{drop}
-use Rattle.text_patterns.specs.Pattern.{done, lit, seq, got, left, parse}
+use lib.ListN.{length, drop}
+use Rattle.text_patterns.specs.Pattern.{Pattern, done, lit, seq, got, left, parse}
 use Rattle.text_patterns.specs.Fields.{digits, one, number}
 use Rattle.text_patterns.proofs.Order.{by-test}
 use Rattle.text_fields.specs.Digit.{hexValue, decimalValue}
-use Rattle.text_fields.specs.Field.{Behind}
+use Rattle.text_fields.specs.Field.{readBehind}
 use Rattle.text_fields.specs.declared.Cursor.{Cursor}
 use Rattle.text_fields.proofs.Toward.{toward, past-lit, past-field}
 use Rattle.label.specs.Label.{versionText, seedText, mText, nText}
@@ -26,24 +26,28 @@ last : (text : List ℕ) (c : Cursor) (r : Recipe) → toward (done r) text c �
 unfolding parse
 last text c r = by-test (c .stopped) (λ e. rw e) (λ e. rw e)
 
+-- what a field's reader promises of the cursor that it leaves
+abbrev Read : Pattern ℕ → List ℕ → Cursor → Cursor → Type 0
+Read field text from c = (c ≡ readBehind field text from) × (c .at ≤ length text)
+
 module _ (text : List ℕ) {a v b s d t u e n : Cursor} where
-  pub by-fields : Behind (lit versionText (done 0)) text start a → Behind (one decimalValue 1 2) text a v
-      → Behind (lit (10 ∷ seedText) (done 0)) text v b → Behind (digits 16 hexValue 16 0) text b s
-      → Behind (lit (10 ∷ mText) (done 0)) text s d → Behind (one decimalValue 1 2) text d t → Behind (one decimalValue 0 9) text t u
-      → Behind (lit (10 ∷ nText) (done 0)) text u e → Behind (number decimalValue 1 124 10) text e n
+  pub by-fields : Read (lit versionText (done 0)) text start a → Read (one decimalValue 1 2) text a v
+      → Read (lit (10 ∷ seedText) (done 0)) text v b → Read (digits 16 hexValue 16 0) text b s
+      → Read (lit (10 ∷ mText) (done 0)) text s d → Read (one decimalValue 1 2) text d t → Read (one decimalValue 0 9) text t u
+      → Read (lit (10 ∷ nText) (done 0)) text u e → Read (number decimalValue 1 124 10) text e n
       → parse label text
       ≡ cond (n .stopped) (left (drop (n .at) text)) (got (recipeOf (v .value) (s .value) (10 * t .value + u .value) (n .value)) (drop (n .at) text))
   unfolding label fromSeed fromM fromN
   by-fields at-v at-version at-seed-text at-seed at-m-text at-tens at-units at-n-text at-n =
-      past-lit text start a versionText (seq (one decimalValue 1 2) fromSeed) at-v
-      ∙ past-field text a v (one decimalValue 1 2) fromSeed _ (spelling-digit 1 2 (omega arith) (omega arith) .live) at-version
-      ∙ past-lit text v b (10 ∷ seedText) (seq (digits 16 hexValue 16 0) (fromM (v .value))) at-seed-text
-      ∙ past-field text b s (digits 16 hexValue 16 0) (fromM (v .value)) _ (spelling-seed .live) at-seed
-      ∙ past-lit text s d (10 ∷ mText) (seq (one decimalValue 1 2) (λ x. seq (one decimalValue 0 9) (λ y. fromN (v .value) (s .value) (10 * x + y)))) at-m-text
-      ∙ past-field text d t (one decimalValue 1 2) (λ x. seq (one decimalValue 0 9) (λ y. fromN (v .value) (s .value) (10 * x + y))) _
-      (spelling-digit 1 2 (omega arith) (omega arith) .live) at-tens
-      ∙ past-field text t u (one decimalValue 0 9) (λ y. fromN (v .value) (s .value) (10 * t .value + y)) _
-      (spelling-digit 0 9 (omega arith) (omega arith) .live) at-units
-      ∙ past-lit text u e (10 ∷ nText) (seq (number decimalValue 1 124 10) (λ x. done (recipeOf (v .value) (s .value) (10 * t .value + u .value) x))) at-n-text
-      ∙ past-field text e n (number decimalValue 1 124 10) (λ x. done (recipeOf (v .value) (s .value) (10 * t .value + u .value) x)) _ (spelling-n .live) at-n
+      past-lit text start a (omega arith) versionText (seq (one decimalValue 1 2) fromSeed) (at-v .0)
+      ∙ past-field text a v (at-v .1) (one decimalValue 1 2) fromSeed _ (spelling-digit 1 2 (omega arith) (omega arith) .live) (at-version .0)
+      ∙ past-lit text v b (at-version .1) (10 ∷ seedText) (seq (digits 16 hexValue 16 0) (fromM (v .value))) (at-seed-text .0)
+      ∙ past-field text b s (at-seed-text .1) (digits 16 hexValue 16 0) (fromM (v .value)) _ (spelling-seed .live) (at-seed .0)
+      ∙ past-lit text s d (at-seed .1) (10 ∷ mText) (seq (one decimalValue 1 2) (λ x. seq (one decimalValue 0 9) (λ y. fromN (v .value) (s .value) (10 * x + y)))) (at-m-text .0)
+      ∙ past-field text d t (at-m-text .1) (one decimalValue 1 2) (λ x. seq (one decimalValue 0 9) (λ y. fromN (v .value) (s .value) (10 * x + y))) _
+      (spelling-digit 1 2 (omega arith) (omega arith) .live) (at-tens .0)
+      ∙ past-field text t u (at-tens .1) (one decimalValue 0 9) (λ y. fromN (v .value) (s .value) (10 * t .value + y)) _
+      (spelling-digit 0 9 (omega arith) (omega arith) .live) (at-units .0)
+      ∙ past-lit text u e (at-units .1) (10 ∷ nText) (seq (number decimalValue 1 124 10) (λ x. done (recipeOf (v .value) (s .value) (10 * t .value + u .value) x))) (at-n-text .0)
+      ∙ past-field text e n (at-n-text .1) (number decimalValue 1 124 10) (λ x. done (recipeOf (v .value) (s .value) (10 * t .value + u .value) x)) _ (spelling-n .live) (at-n .0)
       ∙ last text n (recipeOf (v .value) (s .value) (10 * t .value + u .value) (n .value))

@@ -10,7 +10,7 @@ ghost use lib.ListN.{length, drop};
 ghost use Rattle.text_patterns.specs.Pattern.{parse, got};
 ghost use Rattle.text_patterns.specs.Fields.{digits};
 ghost use Rattle.text_fields.specs.Digit.{hexValue, every, hexAt};
-ghost use Rattle.text_fields.specs.Field.{Behind};
+ghost use Rattle.text_fields.specs.Field.{readBehind};
 
 // Whether the sixteen bytes from a place on are digits: no test waits for the one before it.
 fn all_hex(text: &[u8], at: usize) -> bool
@@ -43,7 +43,7 @@ fn hex_number(text: &[u8], at: usize) -> u64
 // Digit by digit, to the byte that is none.
 fn hex_by_digit(text: &[u8], from: Cursor) -> Cursor
     requires { ⌜ (from .at ≤ length (now text)) × (from .stopped ≡ false) ⌝ }
-    ensures { λ r. ⌜ Behind (digits 16 hexValue 16 0) (now (text .entry)) from r ⌝ }
+    ensures { λ r. ⌜ (r ≡ readBehind (digits 16 hexValue 16 0) (now (text .entry)) from) × (r .at ≤ length (now (text .entry))) ⌝ }
 {
     let at = from.at;
     let mut i = at;
@@ -71,7 +71,7 @@ fn hex_by_digit(text: &[u8], from: Cursor) -> Cursor
 // All sixteen at once; where that does not go, the place is looked for.
 pub fn read_hex(text: &[u8], from: Cursor) -> Cursor
     requires { ⌜ from .at ≤ length (now text) ⌝ }
-    ensures { λ r. ⌜ Behind (digits 16 hexValue 16 0) (now (text .entry)) from r ⌝ }
+    ensures { λ r. ⌜ (r ≡ readBehind (digits 16 hexValue 16 0) (now (text .entry)) from) × (r .at ≤ length (now (text .entry))) ⌝ }
 {
     let at = from.at;
     if from.stopped {

@@ -14,7 +14,7 @@ ghost use lib.ListN.{length};
 ghost use Rattle.text_patterns.specs.Pattern.{lit, done};
 ghost use Rattle.text_patterns.specs.Fields.{one};
 ghost use Rattle.text_fields.specs.Digit.{decimalValue};
-ghost use Rattle.text_fields.specs.Field.{Behind};
+ghost use Rattle.text_fields.specs.Field.{readBehind};
 
 // How far a text is read: the last field's value, and the place behind it; or where the text leaves every valid one.
 pub struct Cursor {
@@ -37,7 +37,7 @@ pub(crate) fn stop_at(at: usize) -> Cursor
 // Fixed bytes; their value is 0.
 pub fn read_literal(text: &[u8], from: Cursor, word: &[u8]) -> Cursor
     requires { ⌜ from .at ≤ length (now text) ⌝ }
-    ensures { λ r. ⌜ Behind (lit (now (word .entry)) (done 0)) (now (text .entry)) from r ⌝ }
+    ensures { λ r. ⌜ (r ≡ readBehind (lit (now (word .entry)) (done 0)) (now (text .entry)) from) × (r .at ≤ length (now (text .entry))) ⌝ }
 {
     let at = from.at;
     if from.stopped {
@@ -65,7 +65,7 @@ pub fn read_literal(text: &[u8], from: Cursor, word: &[u8]) -> Cursor
 // One decimal digit of a range.
 pub fn read_digit(text: &[u8], from: Cursor, low: u64, high: u64) -> Cursor
     requires { ⌜ (from .at ≤ length (now text)) × (high < 10) ⌝ }
-    ensures { λ r. ⌜ Behind (one decimalValue low high) (now (text .entry)) from r × (r .value ≤ high) ⌝ }
+    ensures { λ r. ⌜ (r ≡ readBehind (one decimalValue low high) (now (text .entry)) from) × (r .at ≤ length (now (text .entry))) × (r .value ≤ high) ⌝ }
 {
     let at = from.at;
     if from.stopped {

@@ -7,7 +7,7 @@ ghost use Prim.Native.Nat.{_^_, _≤_, _<_};
 ghost use lib.ListN.{length};
 ghost use Rattle.text_patterns.specs.Fields.{number};
 ghost use Rattle.text_fields.specs.Digit.{decimalValue, nextDigit};
-ghost use Rattle.text_fields.specs.Field.{Behind};
+ghost use Rattle.text_fields.specs.Field.{readBehind};
 
 // Whether a number goes on with a byte, ends with it, or cannot have it.
 pub enum Step {
@@ -39,7 +39,7 @@ fn next_digit(x: u64, high: u64, end: u8, byte: u8) -> Step
 // A number from low, which is 0 or 1, to high.
 pub fn read_number(text: &[u8], from: Cursor, low: u64, high: u64, end: u8) -> Cursor
     requires { ⌜ (from .at ≤ length (now text)) × (low ≤ high) × (high < 2 ^ 60) ⌝ }
-    ensures { λ r. ⌜ Behind (number decimalValue low high end) (now (text .entry)) from r × (r .value ≤ high) ⌝ }
+    ensures { λ r. ⌜ (r ≡ readBehind (number decimalValue low high end) (now (text .entry)) from) × (r .at ≤ length (now (text .entry))) × (r .value ≤ high) ⌝ }
 {
     let at = from.at;
     if from.stopped {

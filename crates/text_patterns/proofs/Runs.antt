@@ -28,6 +28,19 @@ module _ {A : Type 0} where
   count-parse (more a ok f) (b ∷ t) =
       by-test (ok b) (λ e. rw e (omega (arith, count-parse (f b) t))) (λ e. rw e (omega arith))
 
+  pub count-most : (f : Pattern A) (t : List ℕ) → count step f t ≤ length t
+  count-most f t = omega (arith, count-parse f t)
+
+  -- the bytes that are left are the text's last
+  pub parse-rest : (f : Pattern A) (t : List ℕ) → unread (parse f t) ≡ drop (count step f t) t
+  unfolding count parse
+  parse-rest (done a) [] = refl
+  parse-rest (done a) (b ∷ t) = refl
+  parse-rest (node ok f) [] = refl
+  parse-rest (node ok f) (b ∷ t) = by-test (ok b) (λ e. rw e (parse-rest (f b) t)) (λ e. rw e)
+  parse-rest (more a ok f) [] = refl
+  parse-rest (more a ok f) (b ∷ t) = by-test (ok b) (λ e. rw e (parse-rest (f b) t)) (λ e. rw e)
+
   pub spells-parse : (f : Pattern A) (t : List ℕ) (a : A) → Spells f t a → parse f t ≡ got a []
   unfolding parse
   spells-parse (done x) [] a h = ap (λ (y : A). got y []) h

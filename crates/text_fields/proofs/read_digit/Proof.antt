@@ -15,35 +15,36 @@ returns : tie.Need-returns
 returns c =
     let a = c .before .before .before .args in
     let is = c .stop-at .ensures in
-    (stays (a .text .now) (a .from) (one decimalValue (a .low) (a .high)) (search needs) (c .before .if1 .taken) is, rw is (omega arith))
+    let read = stays (a .text .now) (a .from) (one decimalValue (a .low) (a .high)) (search needs) (c .before .if1 .taken) is in
+    (read .0, read .1, rw is (omega arith))
 
 returns-2 : tie.Need-returns-2
 returns-2 c =
     let a = c .before .before .before .before .args in
-    let is = c .stop-at2 .ensures in (
-      stops (a .text .now) (a .from) (one decimalValue (a .low) (a .high)) (c .before .before .if1 .left) (a .from .at) (search needs)
-          (no-digit (a .low) (a .high) (a .text .now) (a .from .at) (search needs)) is,
-      rw is (omega arith),
-    )
+    let is = c .stop-at2 .ensures in
+    let read =
+    stops (a .text .now) (a .from) (one decimalValue (a .low) (a .high)) (c .before .before .if1 .left) (a .from .at) (search needs)
+    (no-digit (a .low) (a .high) (a .text .now) (a .from .at) (search needs)) is in
+    (read .0, read .1, rw is (omega arith))
 
 returns-3 : tie.Need-returns-3
 returns-3 c =
     let a = c .before .before .before .before .before .before .before .args in
     let v = c .before .before .decimal-value in
-    let is = c .stop-at3 .ensures in (
-      stops (a .text .now) (a .from) (one decimalValue (a .low) (a .high)) (c .before .before .before .before .before .if1 .left) (a .from .at) (search needs)
-          (other-digit (a .low) (a .high) (a .text .now) (a .from .at) (v .result) (search needs) (v .ensures .0) (c .before .if3 .taken)) is,
-      rw is (omega arith),
-    )
+    let is = c .stop-at3 .ensures in
+    let read =
+    stops (a .text .now) (a .from) (one decimalValue (a .low) (a .high)) (c .before .before .before .before .before .if1 .left) (a .from .at) (search needs)
+    (other-digit (a .low) (a .high) (a .text .now) (a .from .at) (v .result) (search needs) (v .ensures .0) (c .before .if3 .taken)) is in
+    (read .0, read .1, rw is (omega arith))
 
 returns-4 : tie.Need-returns-4
 returns-4 c =
     let a = c .before .before .before .before .before .before .args in
-    let v = c .before .decimal-value in (
-      gets (a .text .now) (a .from) (one decimalValue (a .low) (a .high)) (c .before .before .before .before .if1 .left) (a .from .at + 1) (search needs) (v .result)
-          (digit-read (a .low) (a .high) (a .text .now) (a .from .at) (v .result) (search needs) (v .ensures .0) (c .if3 .left)) refl,
-      most (a .low) (a .high) (v .result) (c .if3 .left),
-    )
+    let v = c .before .decimal-value in
+    let read =
+    gets (a .text .now) (a .from) (one decimalValue (a .low) (a .high)) (c .before .before .before .before .if1 .left) (a .from .at + 1) (search needs) (v .result)
+    (digit-read (a .low) (a .high) (a .text .now) (a .from .at) (v .result) (search needs) (v .ensures .0) (c .if3 .left)) refl in
+    (read .0, read .1, most (a .low) (a .high) (v .result) (c .if3 .left))
 
 pub read-digit-spec : {M : Type 1} → statement M
 read-digit-spec =

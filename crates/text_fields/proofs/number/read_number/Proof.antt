@@ -22,23 +22,25 @@ returns : tie.Need-returns Inv-loop μ-loop
 returns c =
     let a = c .before .before .before .args in
     let is = c .stop-at .ensures in
-    (stays (a .text .now) (a .from) (number decimalValue (a .low) (a .high) (a .end)) (search needs) (c .before .if1 .taken) is, rw is (omega arith))
+    let read = stays (a .text .now) (a .from) (number decimalValue (a .low) (a .high) (a .end)) (search needs) (c .before .if1 .taken) is in
+    (read .0, read .1, rw is (omega arith))
 
 returns-2 : tie.Need-returns-2 Inv-loop μ-loop
 returns-2 c =
     let a = c .before .before .before .before .args in
     let is = c .stop-at2 .ensures in
-    (stops (a .text .now) (a .from) (number decimalValue (a .low) (a .high) (a .end)) (c .before .before .if1 .left) (a .from .at) (search needs) (nothing (a .low) (a .high) (a .end) (a .text .now) (a .from .at) (search needs)) is, rw is (omega arith))
+    let read = stops (a .text .now) (a .from) (number decimalValue (a .low) (a .high) (a .end)) (c .before .before .if1 .left) (a .from .at) (search needs) (nothing (a .low) (a .high) (a .end) (a .text .now) (a .from .at) (search needs)) is in
+    (read .0, read .1, rw is (omega arith))
 
 returns-3 : tie.Need-returns-3 Inv-loop μ-loop
 returns-3 c =
     let a = c .before .before .before .before .before .before .before .args in
     let v = c .before .before .decimal-value in
-    let is = c .stop-at3 .ensures in (
-      stops (a .text .now) (a .from) (number decimalValue (a .low) (a .high) (a .end)) (c .before .before .before .before .before .if1 .left) (a .from .at) (search needs)
-          (begins-not (a .low) (a .high) (a .end) (a .text .now) (a .from .at) (v .result) (search needs) (v .ensures .0) (c .before .if3 .taken)) is,
-      rw is (omega arith),
-    )
+    let is = c .stop-at3 .ensures in
+    let read =
+    stops (a .text .now) (a .from) (number decimalValue (a .low) (a .high) (a .end)) (c .before .before .before .before .before .if1 .left) (a .from .at) (search needs)
+    (begins-not (a .low) (a .high) (a .end) (a .text .now) (a .from .at) (v .result) (search needs) (v .ensures .0) (c .before .if3 .taken)) is in
+    (read .0, read .1, rw is (omega arith))
 
 loop-holds : tie.Need-loop-holds Inv-loop μ-loop
 loop-holds c =
@@ -50,22 +52,22 @@ returns-4 : tie.Need-returns-4 Inv-loop μ-loop
 returns-4 c =
     let a = c .before .before .before .before .before .before .before .before .before .before .before .before .args in
     let l = c .before .before .before .before .before .loop in
-    let e : nextDigit (l .x) (a .high) (a .end) (getD (a .text .now) (l .i) 0) ≡ End = cc in (
-      gets (a .text .now) (a .from) (number decimalValue (a .low) (a .high) (a .end)) (c .before .before .before .before .before .before .before .before .before .before .if1 .left) (l .i + 1) (search needs) (l .x)
-          (ends (number decimalValue (a .low) (a .high) (a .end)) (a .high) (a .end) (a .text .now) (a .from .at) (l .i) (l .x) (search needs) (l .inv .1) e) refl,
-      l .inv .1 .below,
-    )
+    let e : nextDigit (l .x) (a .high) (a .end) (getD (a .text .now) (l .i) 0) ≡ End = cc in
+    let read =
+    gets (a .text .now) (a .from) (number decimalValue (a .low) (a .high) (a .end)) (c .before .before .before .before .before .before .before .before .before .before .if1 .left) (l .i + 1) (search needs) (l .x)
+    (ends (number decimalValue (a .low) (a .high) (a .end)) (a .high) (a .end) (a .text .now) (a .from .at) (l .i) (l .x) (search needs) (l .inv .1) e) refl in
+    (read .0, read .1, l .inv .1 .below)
 
 returns-5 : tie.Need-returns-5 Inv-loop μ-loop
 returns-5 c =
     let a = c .before .before .before .before .before .before .before .before .before .before .before .before .before .args in
     let l = c .before .before .before .before .before .before .loop in
     let is = c .stop-at4 .ensures in
-    let e : nextDigit (l .x) (a .high) (a .end) (getD (a .text .now) (l .i) 0) ≡ Stop = cc in (
-      stops (a .text .now) (a .from) (number decimalValue (a .low) (a .high) (a .end)) (c .before .before .before .before .before .before .before .before .before .before .before .if1 .left) (l .i) (l .inv .0)
-          (halts (number decimalValue (a .low) (a .high) (a .end)) (a .high) (a .end) (a .text .now) (a .from .at) (l .i) (l .x) (search needs) (l .inv .1) e) is,
-      rw is (omega arith),
-    )
+    let e : nextDigit (l .x) (a .high) (a .end) (getD (a .text .now) (l .i) 0) ≡ Stop = cc in
+    let read =
+    stops (a .text .now) (a .from) (number decimalValue (a .low) (a .high) (a .end)) (c .before .before .before .before .before .before .before .before .before .before .before .if1 .left) (l .i) (l .inv .0)
+    (halts (number decimalValue (a .low) (a .high) (a .end)) (a .high) (a .end) (a .text .now) (a .from .at) (l .i) (l .x) (search needs) (l .inv .1) e) is in
+    (read .0, read .1, rw is (omega arith))
 
 loop-again : tie.Need-loop-again Inv-loop μ-loop
 loop-again c =
@@ -79,11 +81,11 @@ returns-6 : tie.Need-returns-6 Inv-loop μ-loop
 returns-6 c =
     let a = c .before .before .before .before .before .before .before .before .before .args in
     let l = c .before .before .loop in
-    let is = c .stop-at5 .ensures in (
-      stops (a .text .now) (a .from) (number decimalValue (a .low) (a .high) (a .end)) (c .before .before .before .before .before .before .before .if1 .left) (l .i) (l .inv .0)
-          (over (number decimalValue (a .low) (a .high) (a .end)) (a .high) (a .end) (a .text .now) (a .from .at) (l .i) (l .x) (search needs) (l .inv .1)) is,
-      rw is (omega arith),
-    )
+    let is = c .stop-at5 .ensures in
+    let read =
+    stops (a .text .now) (a .from) (number decimalValue (a .low) (a .high) (a .end)) (c .before .before .before .before .before .before .before .if1 .left) (l .i) (l .inv .0)
+    (over (number decimalValue (a .low) (a .high) (a .end)) (a .high) (a .end) (a .text .now) (a .from .at) (l .i) (l .x) (search needs) (l .inv .1)) is in
+    (read .0, read .1, rw is (omega arith))
 
 pub read-number-spec : {M : Type 1} → statement M
 read-number-spec =
