@@ -55,6 +55,10 @@ figures() {
     equal "rust/Cargo.toml, version" "$(sed -n 's/^version = "\(.*\)"$/\1/p' rust/Cargo.toml)" "$(figure version)"
     equal "CHANGELOG.md, version" "$(sed -n 's/^## //p' CHANGELOG.md | head -n 1)" "$(figure version)"
     equal "the header's version as bench reads it" "$(version)" "$(figure version)"
+    grep -qF "(answer $(figure answer) bytes, recipe $(figure recipe), grid " docs/VERDICTS.md ||
+        fault "docs/VERDICTS.md has other lengths"
+    grep -qxF "uisnabar $(figure version), leanVM draft 0.6.0" docs/DISPUTE.md ||
+        fault "docs/DISPUTE.md shows another version"
 }
 
 # a driver that is told ANSWER says so, and doesn't read the buffer: each example with a buffer one byte too long
