@@ -1,7 +1,8 @@
 """The command `uisnabar`, run: `python3 tests/cli.py target/cli/uisnabar`, or an emulator's words before it.
 
 Answers are computed by tests/oracle.py, sentences taken from docs/VERDICTS.md, sums from Python's own SHA-256. It works
-in a folder of its own. Counts and reports are in tests/cli_forms.py, translations in tests/cli_translate.py."""
+in a folder of its own. Counts and reports are in tests/cli_forms.py, translations in tests/cli_translate.py, labels in
+tests/cli_labels.py."""
 import os
 import pathlib
 import re
@@ -12,6 +13,7 @@ import tempfile
 sys.dont_write_bytecode = True
 import cli_cases
 import cli_forms
+import cli_labels
 import cli_run
 import cli_translate
 import oracle
@@ -52,28 +54,6 @@ def tables():
     pathlib.Path("tables").write_bytes(b"")
     could_not("tables, empty", run("judge", "tables"), "empty")
     check("tables, another start", run("judge", "--fp", "9", "tables")[0], 2)
-
-
-def labels():
-    """Every label of the shelf, from a file and from standard input."""
-    for path in sorted((ROOT / "shelf").glob("*.label")):
-        text = path.read_bytes()
-        *answer, _, seed, m, n = oracle.read_label(text)
-        if answer[0] == 0:
-            said = f"ACCEPTED: a label of seed {seed:016x}, m {m} and n {n}\n"
-        elif answer[2] < len(text):
-            said = f"LABEL: the first {answer[2]} bytes begin a valid label, and the next, 0x{text[answer[2]]:02x}, fits none\n"
-        else:
-            said = f"LABEL: the text ends after {answer[2]} bytes, where every valid label that begins so goes on\n"
-        wanted = int(answer[0] > 0), shelf.four_lines(answer), said
-        check(path.name, run("label", str(path)), wanted)
-        check(path.name + " on standard input", run("label", stdin=text), wanted)
-    check("endless", run("label", "/dev/zero")[:2], (1, shelf.four_lines((8, 0, 0, 0))))
-    could_not("no label", run("label", "missing"), "missing: No such file")
-    could_not("a folder for a label", run("label", "."), ".: Is a directory")
-    could_not("two labels", run("label", "a", "b"), "one file at most")
-    could_not("a label's option", run("label", "--paste"), "no option")
-    could_not("no standard input", run("label", stdin=os.open("folder", os.O_RDONLY)), "standard input")
 
 
 def numbers():
@@ -194,7 +174,7 @@ def main():
         os.chdir(folder)
         os.mkdir("folder")
         pathlib.Path("folder/read").write_bytes(b"")
-        for group in (judged, tables, labels, numbers, usage, files, streams, closed, sums, pages, *cli_forms.GROUPS,
+        for group in (judged, tables, numbers, usage, files, streams, closed, sums, pages, *cli_labels.GROUPS, *cli_forms.GROUPS,
                       *cli_translate.GROUPS):
             group()
         os.chdir(ROOT)

@@ -1,7 +1,6 @@
 -- The theorems on labels: a recipe and its label determine one another, and the reader's promise has one answer.
 -- Assumes nothing.
 use Prim.Native.Nat.{ℕ, _≤_}
-use mathlib.Core.Bool.{true, false}
 use mathlib.Core.List.{List, [], _∷_}
 use mathlib.Core.Logic.{inl, inr}
 use mathlib.Core.Path.{_≡_, refl, sym, _∙_, ap, subst}
@@ -14,7 +13,7 @@ use Rattle.text_patterns.specs.Pattern.{Parsed, got, left, parse, Spells}
 use Rattle.text_patterns.specs.Place.{Place}
 use Rattle.text_patterns.proofs.Law.{unique}
 use Rattle.text_patterns.proofs.Patterns.{spells-one}
-use Rattle.text_patterns.proofs.Runs.{parse-owed, ParseOwed}
+use Rattle.text_patterns.proofs.Parsing.{parse-owed, ParseOwed}
 use Rattle.label.specs.declared.Recipe.{Recipe}
 use Rattle.label.specs.declared.Reading.{Reading}
 use Rattle.label.specs.declared.Written.{Written}

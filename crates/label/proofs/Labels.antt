@@ -3,10 +3,10 @@
 use Prim.Native.Nat.{ℕ, _+_, _*_, _/_, _%_, _^_, _≤_, _<_}
 use mathlib.Core.Bool.{false}
 use mathlib.Core.List.{List, [], _∷_, _++_, append-assoc, append-nil}
-use mathlib.Core.Path.{_≡_, refl, _∙_, ap, sym}
+use mathlib.Core.Path.{_≡_, ap, sym}
 use native.Mathlib.Omega.{arith}
 use Rattle.lines.specs.Line.{digit, decimal}
-use Rattle.text_patterns.specs.Pattern.{Pattern, done, seq, Spelling}
+use Rattle.text_patterns.specs.Pattern.{done, seq, Spelling}
 use Rattle.text_patterns.specs.Fields.{lowest, digits, one, numeral, number}
 use Rattle.text_patterns.proofs.Joined.{spelling-as, spelling-done, spelling-seq, spelling-lit}
 use Rattle.text_patterns.proofs.Digits.{spelling-digits, spelling-one}

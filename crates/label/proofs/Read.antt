@@ -1,16 +1,16 @@
 -- What each end of the reading owes: the text is all read, there is more of it, or it has left every valid label.
 -- Assumes nothing.
-use Prim.Native.Nat.{ℕ, suc, _+_, _-_, _^_, _≤_, _<_}
+use Prim.Native.Nat.{ℕ, suc, _-_, _^_, _≤_, _<_}
 use mathlib.Core.List.{List, [], _∷_}
 use mathlib.Core.Logic.{inl, inr}
-use mathlib.Core.Path.{_≡_, refl, sym, _∙_, ap, subst}
+use mathlib.Core.Path.{_≡_, refl, subst}
 use native.Mathlib.Omega.{arith}
 use lib.ListN.{length, drop, getD, length-drop, drop-of-length-le}
 use lib.Seq.{drop-cons}
 use Rattle.answer.specs.declared.Answer.the-variants.{Accepted}
 use Rattle.text_patterns.specs.Pattern.{Parsed, got, left, parse}
 use Rattle.text_patterns.specs.Place.{Place}
-use Rattle.text_patterns.proofs.Runs.{ParseOwed, parse-owed}
+use Rattle.text_patterns.proofs.Parsing.{ParseOwed, parse-owed}
 use Rattle.label.specs.Label.{InRange, labelOf}
 use Rattle.label.specs.Reading.{Valid, Reads}
 use Rattle.label.specs.Reader.{label, refusedAt}

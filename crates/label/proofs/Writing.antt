@@ -1,4 +1,5 @@
 -- The writer's three answers, each with the buffer at return.
+-- Assumes nothing.
 use Prim.Native.Nat.{ℕ, _<_, _≤_}
 use mathlib.Core.Bool.{true, false}
 use mathlib.Core.List.{List, _++_}

@@ -1,4 +1,4 @@
--- Documents 01, "Draws, recipe, label", and 02, M-103: a recipe's range, and its label byte by byte (ASCII).
+-- Document 01, "Draws, recipe, label", and document 02, M-103: a recipe's range, and its label byte by byte (ASCII).
 -- Declared in src/: Recipe (here).
 use Prim.Native.Nat.{ℕ, zero, suc, _+_, _/_, _%_, _^_, _<_}
 use mathlib.Core.Bool.{Bool, true, cond, _&&_}

@@ -1,6 +1,6 @@
--- Inner: the label's fields, each behind the one before it, as the reader goes. Reading.antt, the promise, knows nothing
--- of this.
--- Declared in src/: Answer (answer); Recipe, Reading, Fields (here).
+-- Inner: the label's fields, each behind the one before it, as the reader goes. Reading.antt, the promise, knows
+-- nothing of this.
+-- Declared in src/: Answer (answer); Recipe, Reading, reader (here).
 use Prim.Native.Nat.{ℕ, _+_, _*_, _≤_}
 use mathlib.Core.Bool.{cond}
 use mathlib.Core.List.{List, _∷_}

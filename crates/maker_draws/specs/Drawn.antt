@@ -1,6 +1,6 @@
 -- Document 01, "Draws, recipe, label", and document 02, M-103: the maker's draws. First 32 cells, for which versions
 -- other than 1 throw some draws away, then three draws for each instruction.
--- Declared in src/: Begun, Three (here); Generator (draw).
+-- Declared in src/: Generator (draw); Begun, Three (here).
 use mathlib.Core.Bool.{Bool, cond, _||_}
 use mathlib.Core.List.{List, [], _∷_}
 use Prim.Native.Nat.{ℕ, zero, suc, _+_, _*_, _/_, _%_, _^_}

@@ -1,5 +1,5 @@
--- Document 01, "Draws, recipe, label", as it was before M-103: every draw is kept, and all are numbered from 0. First 32
--- cells, then three for each instruction.
+-- Document 01, "Draws, recipe, label", as it was before M-103: every draw is kept, and all are numbered from 0. First
+-- 32 cells, then three for each instruction.
 use Prim.Native.Nat.{ℕ, _+_, _*_, _%_}
 use Rattle.word.specs.Word.{p}
 use Rattle.maker_draws.specs.Drawn.{Draws, drawn}

@@ -3,8 +3,8 @@
 -- as that recipe, all 64 bits of the seed included, and no other text reads as it."
 -- Parts are the four parts as bytes, and the start; `judgeOf` is the answer that `judge::judge` promises. `Satisfies`
 -- (rules) knows neither machine nor judge; `Says` (judge_spec) says for each verdict what document 01's table has: the
--- first failure in its order, by part, row and rule. A recipe in range is a version, a seed below 2^64, m and n; `labelOf` is its
--- label byte for byte, and `Reads` what `label::read_label` promises.
+-- first failure in its order, by part, row and rule. A recipe in range is a version, a seed below 2^64, m and n;
+-- `labelOf` is its label byte for byte, and `Reads` what `label::read_label` promises.
 -- Declared in src/: Answer (answer); Recipe, Reading (label).
 use mathlib.Core.Path.{_≡_}
 use mathlib.Core.Logic.{_↔_}

@@ -1,6 +1,6 @@
 -- The two ranges of hex digits, and a digit's value by its bits.
 -- Assumes nothing.
-use Prim.Native.Nat.{ℕ, _+_, _-_, _*_, _/_, _%_, _<_, _≤_}
+use Prim.Native.Nat.{ℕ, _+_, _-_, _*_, _/_, _%_, _<_}
 use mathlib.Core.Bool.{_&&_, _||_}
 use mathlib.Core.Path.{_≡_}
 use native.Mathlib.Omega.{arith}

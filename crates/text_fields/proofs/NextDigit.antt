@@ -1,16 +1,16 @@
 -- One byte of a number, in the code's words and in the form's.
+-- Assumes nothing.
 use Prim.Native.Nat.{ℕ, zero, suc, _+_, _*_, _≤_, _<_}
 use mathlib.Core.Bool.{Bool, true, false, cond, _&&_, _||_}
 use mathlib.Core.List.{List}
-use mathlib.Core.Path.{_≡_, refl, _∙_, ap, sym, subst}
+use mathlib.Core.Path.{_≡_, refl, _∙_, ap, sym}
 use native.Mathlib.Omega.{arith}
 use lib.Dec.{ltb, leb, eqb}
 use lib.ListN.{length, getD, drop}
-use borrow.Author.Tests.{lt-ltb, le-ltb, le-leb, lt-leb}
-use Rattle.text_patterns.specs.Pattern.{Pattern, done, node, parse, got, left}
+use Rattle.text_patterns.specs.Pattern.{Pattern, done, parse, got, left}
 use Rattle.text_patterns.specs.Fields.{follows, numberFrom, number}
-use Rattle.text_patterns.proofs.Order.{by-test, by-order, both}
-use Rattle.text_patterns.proofs.Runs.{parse-on, parse-stop, parse-end}
+use Rattle.text_patterns.proofs.Order.{by-test, both}
+use Rattle.text_patterns.proofs.Parsing.{parse-on, parse-stop, parse-end}
 use borrow.Author.Tests.{ltb-true, leb-true}
 use Rattle.text_fields.proofs.Range.{digit-outside, digit-inside}
 use Rattle.text_fields.specs.Digit.{decimalValue, nextDigit}

@@ -8,7 +8,7 @@ use lib.Dec.{ltb, leb}
 use lib.ListN.{length, getD, drop}
 use Rattle.text_patterns.specs.Pattern.{done, parse, got, left}
 use Rattle.text_patterns.specs.Fields.{one}
-use Rattle.text_patterns.proofs.Runs.{parse-on, parse-stop, parse-end}
+use Rattle.text_patterns.proofs.Parsing.{parse-on, parse-stop, parse-end}
 use Rattle.text_fields.specs.Digit.{decimalValue}
 use Rattle.text_fields.proofs.Range.{outside, inside}
 

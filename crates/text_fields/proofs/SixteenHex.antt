@@ -3,7 +3,7 @@
 use Prim.Native.Nat.{ℕ, suc, _+_, _-_, _*_, _^_, _≤_, _<_}
 use mathlib.Core.Bool.{Bool, true, false}
 use mathlib.Core.List.{List}
-use mathlib.Core.Path.{_≡_, _∙_}
+use mathlib.Core.Path.{_≡_}
 use native.Mathlib.Nat.{pow-le-pow-right, pow-suc}
 use native.Mathlib.Numerals.{add-one}
 use native.Mathlib.Omega.{arith}
@@ -11,7 +11,7 @@ use lib.Dec.{ltb, lit<}
 use lib.ListN.{length, getD, drop}
 use Rattle.text_patterns.specs.Pattern.{parse, left}
 use Rattle.text_patterns.specs.Fields.{digits}
-use Rattle.text_patterns.proofs.Runs.{parse-on, parse-stop, parse-end}
+use Rattle.text_patterns.proofs.Parsing.{parse-on, parse-stop, parse-end}
 use Rattle.text_fields.specs.Digit.{hexValue}
 
 -- k digits are read, and make x

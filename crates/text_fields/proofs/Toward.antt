@@ -1,7 +1,7 @@
 -- A pattern read field by field: each field's reader leaves a cursor, from which the rest of the pattern is read.
 -- Assumes nothing.
 use Prim.Native.Nat.{ℕ, _+_, _-_, _≤_}
-use mathlib.Core.Bool.{Bool, true, false, cond}
+use mathlib.Core.Bool.{false}
 use mathlib.Core.List.{List}
 use mathlib.Core.Path.{_≡_, refl, sym, _∙_, ap}
 use native.Mathlib.Omega.{arith}
@@ -10,7 +10,7 @@ use lib.Seq.{drop-drop}
 use Rattle.text_patterns.specs.Reader.{count}
 use Rattle.text_patterns.specs.Pattern.{Pattern, done, step, lit, seq, Live, Parsed, got, left, parse, unread, onto}
 use Rattle.text_patterns.proofs.Order.{by-test}
-use Rattle.text_patterns.proofs.Runs.{count-most, parse-rest, parse-seq, parse-lit-then}
+use Rattle.text_patterns.proofs.Parsing.{count-most, parse-rest, parse-seq, parse-lit-then}
 use Rattle.text_fields.specs.Field.{standing, cursorAt, readBehind}
 use Rattle.text_fields.specs.declared.Cursor.{Cursor}
 

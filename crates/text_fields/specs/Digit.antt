@@ -1,5 +1,5 @@
 -- Inner: what a byte is worth as a digit, and whether a number goes on with it.
--- Declared in src/: Step (here).
+-- Declared in src/: number (here).
 use Prim.Native.Nat.{ℕ, zero, suc, _+_, _-_, _*_}
 use mathlib.Core.Bool.{Bool, true, cond, _&&_}
 use mathlib.Core.List.{List}

@@ -1,13 +1,14 @@
 -- So many digits of a base, and one digit of a range.
+-- Assumes nothing.
 use Prim.Native.Nat.{ℕ, zero, suc, _+_, _*_, _/_, _%_, _^_, _≤_, _<_}
-use mathlib.Core.Bool.{Bool, true, false}
+use mathlib.Core.Bool.{false}
 use mathlib.Core.List.{List, [], _∷_, _++_}
-use mathlib.Core.Path.{_≡_, refl, _∙_, ap, ap₂, subst, sym}
+use mathlib.Core.Path.{_≡_, refl, _∙_, ap, ap₂, sym}
 use native.Mathlib.Omega.{arith}
 use native.Mathlib.Nat.{div-one, div-div-eq-div-mul, mod-lt, div-add-mod, mul-add-div, mul-add-mod-self-left, mod-eq-of-lt, div-eq-of-lt, pow-zero, pow-suc, pow-succ'}
-use lib.Dec.{ltb, leb}
+use lib.Dec.{leb}
 use borrow.Author.Tests.{ltb-true, lt-ltb, le-leb, leb-true}
-use Rattle.text_patterns.specs.Pattern.{Pattern, done, node, Spells, Live, Spelling}
+use Rattle.text_patterns.specs.Pattern.{Spells, Live, Spelling}
 use Rattle.text_patterns.specs.Fields.{Digits, lowest, digits, one}
 use Rattle.text_patterns.proofs.Patterns.{spells-kind}
 use Rattle.text_patterns.proofs.Joined.{live-as}

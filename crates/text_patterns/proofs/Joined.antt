@@ -1,17 +1,13 @@
--- Patterns one after the other, behind fixed bytes, and one of two: what is written of the parts is written of the whole.
+-- Patterns one after the other, and behind fixed bytes: what is spelled by the parts is spelled by the whole.
+-- Assumes nothing.
 use Prim.Native.Nat.{ℕ}
-use mathlib.Core.Bool.{Bool, true, false, cond, _||_}
+use mathlib.Core.Bool.{Bool, false}
 use mathlib.Core.List.{List, [], _∷_, _++_}
-use mathlib.Core.Logic.{_↔_, _⊎_, inl, inr}
+use mathlib.Core.Logic.{_↔_}
 use mathlib.Core.Path.{_≡_, refl, _∙_, ap, ap₂, subst, sym}
-use native.Mathlib.Omega.{arith}
-use lib.Dec.{T, eqb}
 use borrow.Author.Tests.{eq-eqb, eqb-true}
 use Rattle.text_patterns.specs.Pattern.{Pattern, done, node, more, Spells, Live, Spelling, lit, seq}
 use Rattle.text_patterns.proofs.Patterns.{spells-kind}
-
-clash : {A : Type 0} → true ≡ false → A
-clash e = let z : _≡_ {A = ℕ} 0 1 = cc in absurd (omega arith)
 
 -- a kind in other words
 pub live-as : {A : Type 0} (o : Bool) (P Q : A → Type 0) (f : Pattern A) → ((a : A) → P a → Q a) → Live o P f → Live o Q f

@@ -54,14 +54,6 @@ module _ {S : Type 0} (next : S → ℕ → Option S) where
   unfolding follow
   follow-stop b t s e = rw e
 
-  count-on : (b : ℕ) (t : List ℕ) (s q : S) → next s b ≡ some q → count next s (b ∷ t) ≡ suc (count next q t)
-  unfolding count
-  count-on b t s q e = rw e
-
-  count-stop : (b : ℕ) (t : List ℕ) (s : S) → next s b ≡ none → count next s (b ∷ t) ≡ 0
-  unfolding count
-  count-stop b t s e = rw e
-
   pub follow-append : (p t : List ℕ) (s q : S) → follow next s p ≡ some q → follow next s (p ++ t) ≡ follow next q t
   follow-append [] t s q e = let z : s ≡ q = unfold follow in cc in rw z
   follow-append (b ∷ p) t s q e = go (next s b) refl (λ r. follow-append p t r q)
@@ -121,7 +113,7 @@ module _ {S : Type 0} (next : S → ℕ → Option S) where
               let a = f q (keeps s b q h e) in
               (b ∷ a .0, taken-on b (a .0) s q e (a .1), rw e (shared-same b (a .0) t ∙ ap suc (a .2)))
 
--- THE LAW
+-- the law: what a reader that is exact and live follows is the place
 module _ {S : Type 0} {Valid : List ℕ → Type 0} {start : S} {next : S → ℕ → Option S} {ends : S → Bool} (r : Reader Valid start next ends) where
   abbrev Reached : S → Type 0
   Reached q = (p : List ℕ) × (follow next start p ≡ some q)

@@ -4,4 +4,4 @@ pub mod Joined
 pub mod Order
 pub mod Digits
 pub mod Number
-pub mod Runs
+pub mod Parsing

@@ -1,15 +1,16 @@
 -- A number in numeral, with no leading zero, and the byte that ends it.
+-- Assumes nothing.
 use Prim.Native.Nat.{ℕ, zero, suc, _+_, _*_, _/_, _%_, _≤_, _<_}
-use mathlib.Core.Bool.{Bool, true, false, cond, _&&_, _||_}
-use mathlib.Core.List.{List, [], _∷_, _++_, append-assoc}
+use mathlib.Core.Bool.{true, false, _&&_}
+use mathlib.Core.List.{List, [], _∷_, _++_}
 use mathlib.Core.Path.{_≡_, refl, _∙_, ap, ap₂, subst, sym}
 use native.Mathlib.Omega.{arith}
 use lib.Dec.{ltb, leb, eqb}
 use lib.Seq.{append-snoc}
 use borrow.Author.Tests.{ltb-true, lt-ltb, le-ltb, le-leb, leb-true, eq-eqb, eqb-true, ne-eqb}
-use Rattle.text_patterns.specs.Pattern.{Pattern, done, node, Spells, Live, Spelling}
+use Rattle.text_patterns.specs.Pattern.{Pattern, done, Spells, Live, Spelling}
 use Rattle.text_patterns.specs.Fields.{Digits, numeralBy, numeral, follows, numberFrom, number}
-use Rattle.text_patterns.proofs.Order.{by-order, by-test, clash, both, all}
+use Rattle.text_patterns.proofs.Order.{by-order, by-test, both}
 
 -- the digits of a number
 module _ (byte : ℕ → ℕ) where

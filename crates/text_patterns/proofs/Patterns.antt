@@ -1,14 +1,14 @@
 -- A pattern that is written is read: the reader whose states are patterns is exact and live.
-use Prim.Native.Nat.{ℕ, suc, _+_, _≤_}
-use mathlib.Core.Bool.{Bool, true, false, cond}
-use mathlib.Core.List.{List, [], _∷_, _++_}
+-- Assumes nothing.
+use Prim.Native.Nat.{ℕ}
+use mathlib.Core.Bool.{Bool, true, false}
+use mathlib.Core.List.{List, [], _∷_}
 use mathlib.Core.Logic.{_↔_}
-use mathlib.Core.Option.{Option, none, some}
-use mathlib.Core.Path.{_≡_, refl, _∙_, ap, subst, sym}
+use mathlib.Core.Option.{some}
+use mathlib.Core.Path.{_≡_, refl, _∙_, subst, sym}
 use native.Mathlib.Omega.{arith}
-use lib.Dec.{T}
 use Rattle.text_patterns.specs.Place.{Place}
-use Rattle.text_patterns.specs.Reader.{onward, follow, count, Taken, Reader}
+use Rattle.text_patterns.specs.Reader.{follow, count, Taken, Reader}
 use Rattle.text_patterns.specs.Pattern.{Pattern, done, node, more, step, ended, Spells, Live, Spelling}
 use Rattle.text_patterns.proofs.Law.{reader-by, place}
 
@@ -100,7 +100,7 @@ module _ {A : Type 0} where
         go true x = let y = rw x at e in let z : f b ≡ q = cc in subst (Live o P) z (l .2 b x)
         go false x = let y = rw x at e in let z : _≡_ {A = ℕ} 0 1 = cc in absurd (omega arith)
 
-  -- THE LAW OF FORMS
+  -- the texts of a kind of values
   abbrev pub Valid : (A → Type 0) → (A → List ℕ) → List ℕ → Type 0
   Valid P write t = (a : A) × P a × (write a ≡ t)
 

@@ -1,5 +1,5 @@
--- Inner: patterns of text, as what may still come: each byte that goes on, and the pattern of the rest. A pattern is its
--- own reader's state.
+-- Inner: patterns of text, as what may still come: each byte that goes on, and the pattern of the rest. A pattern is
+-- its own reader's state.
 use Prim.Native.Nat.{ℕ}
 use mathlib.Core.Bool.{Bool, true, false, cond}
 use mathlib.Core.List.{List, [], _∷_}

@@ -1,5 +1,5 @@
--- Document 01, "Verdicts", row LABEL: the longest prefix that a text shares with any valid one. Document 02's LISTING has
--- the same place, so it is said of any set of valid texts.
+-- Document 01, "Verdicts", row LABEL: the longest prefix that a text shares with any valid one. Document 02's LISTING
+-- has the same place, so it is said of any set of valid texts.
 use Prim.Native.Nat.{ℕ, suc, _≤_}
 use mathlib.Core.Bool.{cond}
 use mathlib.Core.List.{List, [], _∷_}

@@ -1,1 +1,1 @@
-// The place of a text among valid ones, and texts field by field: definitions in specs/, theorems about them in proofs/.
+// The place of a text among valid ones, and texts field by field: definitions in specs/, theorems in proofs/.

@@ -1,11 +1,10 @@
 -- The invariant: what is left of the word gives the whole reading. The measure is the word's bytes left.
-use Prim.Native.Nat.{ℕ, _+_, _-_, _≤_}
+use Prim.Native.Nat.{ℕ, _-_, _≤_}
 use mathlib.Core.Path.{_≡_, refl, _∙_}
-use native.Mathlib.Omega.{arith}
 use borrow.Author.Needs.{needs}
-use lib.ListN.{length, drop, getD}
+use lib.ListN.{length, drop}
 use Rattle.text_patterns.specs.Pattern.{lit, done, parse}
-use Rattle.text_patterns.proofs.Runs.{lit-on, lit-stop, lit-end, lit-done}
+use Rattle.text_patterns.proofs.Parsing.{lit-on, lit-stop, lit-end, lit-done}
 use Rattle.text_fields.proofs.Standing.{stays, stops, gets}
 use Rattle.text_fields.proofs.read_literal.Statement.{statement}
 use Rattle.text_fields.proofs.read_literal.Tie as tie

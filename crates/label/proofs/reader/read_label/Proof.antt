@@ -1,10 +1,6 @@
 -- The text left every valid label, or there is more of it, or it is all read.
-use mathlib.Core.Path.{_≡_}
 use native.Mathlib.Omega.{arith}
 use borrow.Author.Needs.{needs}
-use lib.ListN.{length, drop}
-use Rattle.text_patterns.specs.Pattern.{got, left, parse}
-use Rattle.label.specs.Reader.{label}
 use Rattle.label.proofs.Read.{stopped-left, more-left, left-fits, refuses, accepts}
 use Rattle.label.proofs.reader.read_label.Statement.{statement}
 use Rattle.label.proofs.reader.read_label.Tie as tie

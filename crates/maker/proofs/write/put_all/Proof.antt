@@ -1,6 +1,6 @@
--- The invariant: the state is the one 3i draws after the cells, i instructions and 32 + 8i cells stand at the front of their
--- buffers, and behind them what stood there. The measure is the instructions left. The laws of Filling take what they
--- need: an `omega` here would read every place before it.
+-- The invariant: the state is the one 3i draws after the cells, i instructions and 32 + 8i cells stand at the front of
+-- their buffers, and behind them what stood there. The measure is the instructions left. The laws of Filling take what
+-- they need: an `omega` here would read every place before it.
 use mathlib.Core.List.{_++_}
 use mathlib.Core.Path.{refl, _≡_, ap, _∙_}
 use Prim.Native.Nat.{_+_, _-_, _*_, _≤_}

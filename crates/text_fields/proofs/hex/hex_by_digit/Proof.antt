@@ -1,11 +1,11 @@
 -- The invariant: what is left of the digits gives the whole reading, and the number so far fits. The measure is the
 -- digits left.
-use Prim.Native.Nat.{ℕ, _+_, _-_, _^_, _≤_, _<_}
+use Prim.Native.Nat.{_-_, _^_, _≤_, _<_}
 use mathlib.Core.Path.{_≡_, refl, sym, _∙_}
 use native.Mathlib.Omega.{arith}
 use borrow.Author.Needs.{needs}
 use borrow.Author.Tests.{ltb-true, not-true, not-false}
-use lib.ListN.{length, drop, getD}
+use lib.ListN.{length, drop}
 use Rattle.text_patterns.specs.Pattern.{parse}
 use Rattle.text_patterns.specs.Fields.{digits}
 use Rattle.text_fields.specs.Digit.{hexValue}

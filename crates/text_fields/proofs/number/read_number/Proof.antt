@@ -1,9 +1,9 @@
 -- The invariant: what is left of the number gives the whole reading. The measure is the bytes left.
 use Prim.Native.Nat.{_+_, _-_, _≤_}
-use mathlib.Core.Path.{_≡_, refl, _∙_}
+use mathlib.Core.Path.{_≡_, refl}
 use native.Mathlib.Omega.{arith}
 use borrow.Author.Needs.{needs}
-use lib.ListN.{length, drop, getD}
+use lib.ListN.{length, getD}
 use Rattle.text_patterns.specs.Fields.{number}
 use Rattle.text_fields.specs.Digit.{decimalValue, nextDigit}
 use Rattle.text_fields.specs.declared.number.Step.the-variants.{On, End, Stop}

@@ -1,8 +1,9 @@
 -- Field by field: a reading that goes as far as it can stops at the place, and one field is read where another ends.
-use Prim.Native.Nat.{ℕ, zero, suc, _+_, _-_, _≤_, _<_}
-use mathlib.Core.Bool.{Bool, true, false, cond}
-use mathlib.Core.List.{List, [], _∷_, _++_}
-use mathlib.Core.Path.{_≡_, refl, _∙_, ap, subst, sym}
+-- Assumes nothing.
+use Prim.Native.Nat.{ℕ, suc, _+_, _-_, _≤_, _<_}
+use mathlib.Core.Bool.{Bool, true, false}
+use mathlib.Core.List.{List, [], _∷_}
+use mathlib.Core.Path.{_≡_, refl, ap, subst}
 use native.Mathlib.Omega.{arith}
 use native.Mathlib.Numerals.{add-one}
 use lib.ListN.{length, getD, drop, drop-of-length-le}
@@ -12,7 +13,7 @@ use lib.Dec.{eqb}
 use Rattle.text_patterns.specs.Place.{Place}
 use Rattle.text_patterns.specs.Reader.{count}
 use Rattle.text_patterns.specs.Pattern.{Pattern, done, node, more, step, Spells, Live, Spelling, lit, seq, Parsed, got, left, parse, unread, onto}
-use Rattle.text_patterns.proofs.Order.{by-test, clash}
+use Rattle.text_patterns.proofs.Order.{by-test}
 use Rattle.text_patterns.proofs.Patterns.{Valid, spells-kind, pattern-place}
 
 module _ {A : Type 0} where
@@ -103,20 +104,6 @@ parse-seq P k (node ok f) [] l = refl
 parse-seq P k (node ok f) (b ∷ t) l =
     by-test (ok b) (λ e. rw e (parse-seq P k (f b) t (l .1 b e))) (λ e. rw e)
 parse-seq P k (more a ok f) t l = absurd (l .0)
-
-pub parse-lit : {A : Type 0} (f : Pattern A) (w t : List ℕ) → parse (lit w f) (w ++ t) ≡ parse f t
-unfolding parse lit
-parse-lit f [] t = refl
-parse-lit f (x ∷ w) t = rw (eq-eqb x x refl) (parse-lit f w t)
-
--- a text of a closed pattern, and what is behind it
-pub parse-behind : {A : Type 0} (P : A → Type 0) (f : Pattern A) (u v : List ℕ) (a : A) → Live false P f → Spells f u a → parse f (u ++ v) ≡ got a v
-unfolding parse
-parse-behind P (done x) [] v a l h = ap (λ (y : _). got y v) h
-parse-behind P (done x) (b ∷ u) v a l h = absurd h
-parse-behind P (node ok f) [] v a l h = absurd h
-parse-behind P (node ok f) (b ∷ u) v a l h = rw (h .0) (parse-behind P (f b) u v a (l .1 b (h .0)) (h .1))
-parse-behind P (more x ok f) u v a l h = absurd (l .0)
 
 -- byte by byte, at a place of a text
 module _ {A : Type 0} (ok : ℕ → Bool) (f : ℕ → Pattern A) (text : List ℕ) (i : ℕ) where
