@@ -32,7 +32,7 @@ fn hex_number(text: &[u8], at: usize) -> u64
     ensures { λ r. ⌜ parse (digits 16 hexValue 16 0) (drop at (now (text .entry))) ≡ got r (drop (at + 16) (now (text .entry))) ⌝ }
 {
     let mut x = 0;
-    let mut k: usize = 0;
+    let mut k = 0usize;
     while k < 16 {
         x = 16 * x + known_hex(text[at + k]);
         k += 1;

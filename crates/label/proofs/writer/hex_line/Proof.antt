@@ -18,6 +18,9 @@ Inv-loop seed bytes₀ i₀ rest₀ bytes i rest =
 abbrev μ-loop : tie.MeasureT-loop
 μ-loop seed bytes₀ i₀ rest₀ bytes i rest = i
 
+loop-holds : tie.Need-loop-holds Inv-loop μ-loop
+loop-holds c = (omega arith, refl, refl)
+
 loop-again : tie.Need-loop-again Inv-loop μ-loop
 loop-again c =
     let l = c .before .before .loop in (
@@ -37,7 +40,7 @@ hex-line-spec =
     (tie.spec
     Inv-loop
     μ-loop
-    (λ c. (omega arith, refl, refl))
+    loop-holds
     (λ c. search needs)
     (λ c κs. search needs)
     (λ c. search needs)
