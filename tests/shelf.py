@@ -82,10 +82,10 @@ def second_version():
     bound, before, drawing = oracle.BOUND, oracle_versions.before, oracle_versions.drawing
     seeds = {"upper-half-" + name: number for name, number in SEEDS.items()}
     seeds |= {"seed-0": 0, "seed-last": 2**64 - 1, "none-thrown": before(first, 32), "eight-thrown": first,
-              "eight-thrown-other": other, "eight-thrown-last-cell": before(first, 31), "ninth-at-bound": ninth,
+              "eight-thrown-other": other, "eight-thrown-last-cell": before(first, 31), "ninth-taken": ninth,
               "first-at-bound": drawing(bound, 1), "first-below-bound": drawing(bound - 1, 1)}
     counts = {name: oracle_versions.thrown(seed) for name, seed in seeds.items()}
-    assert [name for name in seeds if counts[name][0] == 8] == ["eight-thrown", "eight-thrown-other", "ninth-at-bound"]
+    assert [name for name in seeds if counts[name][0] == 8] == ["eight-thrown", "eight-thrown-other", "ninth-taken"]
     assert counts["eight-thrown-last-cell"] == [0] * 31 + [8]
     assert counts["first-at-bound"][0] == 1 and counts["first-below-bound"][0] == 0
     # its eight large draws are the first instructions', so it makes what version 1 makes

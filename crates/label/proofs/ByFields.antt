@@ -1,17 +1,17 @@
 -- The label's pattern, read field by field.
 -- Assumes nothing.
-use Prim.Native.Nat.{ℕ, _+_, _*_, _≤_}
+use Prim.Native.Nat.{ℕ, _+_, _*_}
 use mathlib.Core.Bool.{false, cond}
 use mathlib.Core.List.{List, _∷_}
 use mathlib.Core.Path.{_≡_, _∙_}
 use native.Mathlib.Omega.{arith}
-use lib.ListN.{length, drop}
-use Rattle.text_patterns.specs.Pattern.{Pattern, done, lit, seq, got, left, parse}
+use lib.ListN.{drop}
+use Rattle.text_patterns.specs.Pattern.{done, lit, seq, got, left, parse}
 use Rattle.text_patterns.specs.Fields.{digits, one, number}
 use Rattle.text_patterns.proofs.Order.{by-test}
 use Rattle.text_fields.specs.Digit.{hexValue, decimalValue}
-use Rattle.text_fields.specs.Field.{readBehind}
 use Rattle.text_fields.specs.declared.Cursor.{Cursor}
+use Rattle.text_fields.proofs.Standing.{Read}
 use Rattle.text_fields.proofs.Toward.{toward, past-lit, past-field}
 use Rattle.label.specs.Label.{versionText, seedText, mText, nText}
 use Rattle.label.specs.Reader.{recipeOf, fromN, fromM, fromSeed, label}
@@ -25,10 +25,6 @@ start = record { at = 0; value = 0; stopped = false }
 last : (text : List ℕ) (c : Cursor) (r : Recipe) → toward (done r) text c ≡ cond (c .stopped) (left (drop (c .at) text)) (got r (drop (c .at) text))
 unfolding parse
 last text c r = by-test (c .stopped) (λ e. rw e) (λ e. rw e)
-
--- what a field's reader promises of the cursor that it leaves
-abbrev Read : Pattern ℕ → List ℕ → Cursor → Cursor → Type 0
-Read field text from c = (c ≡ readBehind field text from) × (c .at ≤ length text)
 
 module _ (text : List ℕ) {a v b s d t u e n : Cursor} where
   pub by-fields : Read (lit versionText (done 0)) text start a → Read (one decimalValue 1 2) text a v

@@ -11,14 +11,22 @@ use Rattle.label.specs.declared.Recipe.{Recipe}
 abbrev pub within : ℕ → ℕ → ℕ → Bool
 within low high x = leb low x && leb x high
 
+-- versions 1 and 2 are known
+abbrev pub newest : ℕ
+newest = 2
+
 -- version is 1 or 2, m is 10 to 29 and n is 1 to 124
 abbrev pub ranged : Recipe → Bool
-ranged r = within 1 2 (r .version) && within 10 29 (r .m) && within 1 124 (r .n)
+ranged r = within 1 newest (r .version) && within 10 29 (r .m) && within 1 124 (r .n)
 
 -- a recipe: a seed of 64 bits; version, m and n in their ranges
 pub record InRange (r : Recipe) : Type 0 where
   pub bits : r .seed < 2 ^ 64
   pub ranges : ranged r ≡ true
+
+-- what a refused label reads as
+abbrev pub noRecipe : Recipe
+noRecipe = record { version = 0; seed = 0; m = 0; n = 0 }
 
 -- 0 to 9, then a to f
 abbrev pub hexDigit : ℕ → ℕ

@@ -10,7 +10,7 @@ use Rattle.answer.specs.declared.Answer.the-variants.{Label}
 use Rattle.text_patterns.specs.Pattern.{Pattern, done, lit, seq, got, left, parse}
 use Rattle.text_patterns.specs.Fields.{digits, one, number}
 use Rattle.text_fields.specs.Digit.{hexValue, decimalValue}
-use Rattle.label.specs.Label.{versionText, seedText, mText, nText}
+use Rattle.label.specs.Label.{newest, noRecipe, versionText, seedText, mText, nText}
 use Rattle.label.specs.declared.Recipe.{Recipe}
 use Rattle.label.specs.declared.Reading.{Reading}
 use Rattle.label.specs.declared.reader.Fields.{Fields}
@@ -33,12 +33,12 @@ fromSeed version = lit (10 ∷ seedText) (seq (digits 16 hexValue 16 0) (fromM v
 
 -- v= and 1 or 2; what follows may depend on it
 unfoldable pub label : Pattern Recipe
-label = lit versionText (seq (one decimalValue 1 2) fromSeed)
+label = lit versionText (seq (one decimalValue 1 newest) fromSeed)
 
--- the pattern's own reading: a recipe and the bytes behind it, or the bytes before which the text left every valid one
+-- the pattern's own reading: a recipe and the bytes behind it; or those from which on the text is no label's
 pub record FieldsRead (text : List ℕ) (r : Fields) : Type 0 where
   pub inside : r .at ≤ length text
   pub read : parse label text ≡ cond (r .stopped) (left (drop (r .at) text)) (got (r .recipe) (drop (r .at) text))
 
 abbrev pub refusedAt : ℕ → Reading
-refusedAt place = record { answer = Label place; recipe = record { version = 0; seed = 0; m = 0; n = 0 } }
+refusedAt place = record { answer = Label place; recipe = noRecipe }

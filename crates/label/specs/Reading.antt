@@ -9,7 +9,7 @@ use Rattle.answer.specs.declared.Answer.the-variants.{Accepted, Label}
 use Rattle.text_patterns.specs.Place.{Place}
 use Rattle.label.specs.declared.Recipe.{Recipe}
 use Rattle.label.specs.declared.Reading.{Reading}
-use Rattle.label.specs.Label.{InRange, labelOf}
+use Rattle.label.specs.Label.{InRange, noRecipe, labelOf}
 
 -- a text is valid if it is the label of a recipe
 abbrev pub Valid : List ℕ → Type 0
@@ -27,7 +27,7 @@ pub record Refuses (text : List ℕ) (r : Reading) : Type 0 where
   pub answer : r .answer ≡ Label place
   pub invalid : Valid text → ⊥
   pub nearest : Place Valid text place
-  pub recipe : r .recipe ≡ record { version = 0; seed = 0; m = 0; n = 0 }
+  pub recipe : r .recipe ≡ noRecipe
 
 -- the reader's promise
 abbrev pub Reads : List ℕ → Reading → Type 0

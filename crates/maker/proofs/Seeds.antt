@@ -1,4 +1,5 @@
--- The maker is not blind to its seed: the seed's upper half alone changes the first draw, always, in every version.
+-- The maker is not blind to its seed: the seed's upper half alone changes the first draw, always; and three memories
+-- differ, whatever their versions.
 -- Assumes nothing.
 use mathlib.Core.Path.{_≡_, refl, sym, ap, _∙_}
 use mathlib.Core.Bool.{false}

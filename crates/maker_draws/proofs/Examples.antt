@@ -1,5 +1,5 @@
--- Draws that were worked out by other means: for the first cell none thrown away, one, eight, and a ninth that is at or
--- above 2·p.
+-- Draws that were worked out by other means: none thrown away, one, eight, and a ninth that is at or above 2·p; at
+-- other cells than the first, at several of one seed; and an instruction's draw above 2·p, which is taken.
 -- Assumes nothing.
 use mathlib.Core.Path.{_≡_, refl}
 use mathlib.Core.Bool.{false}
@@ -34,3 +34,26 @@ pub ninth-taken : (afterCells 2 17385533939697703328 1 ≡ stateAfter 1738553393
     × (drawsOf 2 17385533939697703328 .cell 0 ≡ 11894197)
 unfolding stateAfter again afterCells advance
 ninth-taken = (refl, refl, refl)
+
+-- seed 7ec17cc095a397d9: eight for cell 0, and one each for cells 6 and 9, each cell having eight of its own
+pub each-cell-eight : (afterCells 2 9133718685870168025 1 ≡ stateAfter 9133718685870168025 9)
+    × (afterCells 2 9133718685870168025 32 ≡ stateAfter 9133718685870168025 42)
+    × (drawsOf 2 9133718685870168025 .cell 31 ≡ 1817072318)
+unfolding stateAfter again afterCells advance
+each-cell-eight = (refl, refl, refl)
+
+-- seed 4487076f14def176: all eight for the last cell
+pub last-cell-eight : (afterCells 2 4937923690107957622 31 ≡ stateAfter 4937923690107957622 31)
+    × (afterCells 2 4937923690107957622 32 ≡ stateAfter 4937923690107957622 40)
+    × (drawsOf 2 4937923690107957622 .cell 31 ≡ 1030086921)
+unfolding stateAfter again afterCells advance
+last-cell-eight = (refl, refl, refl)
+
+-- one each for cells 5 and 15; instruction 0's a is drawn above 2·p, and taken
+pub instruction-kept : (afterCells 2 175 32 ≡ stateAfter 175 34)
+    × (kept 2 (drawn (afterCells 2 175 32) 1) ≡ false)
+    × (drawsOf 2 175 .kind 0 ≡ 1)
+    × (drawsOf 2 175 .a 0 ≡ 14)
+    × (drawsOf 2 175 .c 0 ≡ 10)
+unfolding stateAfter again afterCells advance
+instruction-kept = (refl, refl, refl, refl, refl)

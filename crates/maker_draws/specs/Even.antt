@@ -1,5 +1,5 @@
--- Document 02, M-103: how evenly a cell is drawn. A draw is one of the 2^32 numbers below 2^32; those that are kept are
--- counted, and those of them that give a cell its value.
+-- Document 02, M-103: how evenly a cell is drawn. A draw is one of the 2^32 numbers below 2^32. Counted are those that
+-- a version keeps, and those of them that give a cell one value.
 use mathlib.Core.Path.{_≡_}
 use mathlib.Core.Bool.{Bool, false, cond, _&&_}
 use Prim.Native.Nat.{ℕ, zero, suc, _+_, _*_, _%_, _^_}

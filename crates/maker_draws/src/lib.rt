@@ -9,7 +9,7 @@ ghost use Rattle.maker_draws.specs.Drawn.{afterCell, begunOf, threeOf};
 const P: u32 = 2130706433;
 
 // 2·p: numbers from here on would give the lowest values a third time
-const EVEN: u32 = 4261412866;
+const KEPT_BELOW: u32 = 4261412866;
 
 // Cells 0 to 31, and the generator after them.
 pub struct Begun {
@@ -34,7 +34,7 @@ fn draw_cell(version: u32, generator: Generator) -> Drawn
 {
     let mut drawn = generator.draw();
     let mut thrown: u32 = 0;
-    while thrown < 8 && version != 1 && drawn.number >= EVEN {
+    while thrown < 8 && version != 1 && drawn.number >= KEPT_BELOW {
         let next = drawn.next;
         drawn = next.draw();
         thrown += 1;

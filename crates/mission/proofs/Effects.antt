@@ -13,7 +13,7 @@ use Rattle.word.proofs.Tests.{cases}
 use Rattle.answer.specs.Verdicts.{numbersOf, accepted}
 use Rattle.answer.specs.declared.Answer.{Answer}
 use Rattle.answer.specs.declared.Answer.the-variants.{Accepted, Size}
-use Rattle.label.specs.Label.{ranged, labelOf}
+use Rattle.label.specs.Label.{ranged, noRecipe, labelOf}
 use Rattle.label.specs.Reading.{Reads}
 use Rattle.label.specs.Writing.{written, buffered}
 use Rattle.label.specs.declared.Recipe.{Recipe}
@@ -53,7 +53,7 @@ module _ (r : Recipe) (buffer : List ℕ) where
   unfolding written buffered
   writer-keeps = writes (ranged r) (ltb (length buffer) (length (labelOf r))) (length (labelOf r)) _
 
-pub reader-zeroes : (text : List ℕ) (r : Reading) → Reads text r → IsRefusal (r .answer) → r .recipe ≡ record { version = 0; seed = 0; m = 0; n = 0 }
+pub reader-zeroes : (text : List ℕ) (r : Reading) → Reads text r → IsRefusal (r .answer) → r .recipe ≡ noRecipe
 reader-zeroes text r (inl a) h = absurd (omega (arith, ap (λ (x : Answer). numbersOf x .verdict) (a .answer)))
 reader-zeroes text r (inr n) h = n .recipe
 

@@ -1,9 +1,9 @@
 -- The C boundary of labels: what `uisnabar_label` promises tells a driver the text's one reading.
 -- Assumes nothing.
-use mathlib.Core.Path.{_≡_, sym, ap, _∙_}
+use mathlib.Core.Path.{_≡_, refl, sym, ap, _∙_}
 use mathlib.Core.Logic.{inl, inr}
 use mathlib.Core.Bool.{true}
-use mathlib.Core.List.{List}
+use mathlib.Core.List.{List, [], _∷_}
 use Prim.Native.Nat.{ℕ, _+_, _*_, _/_, _%_, _^_, _<_}
 use native.Mathlib.Omega.{arith}
 use lib.ListN.{length}
@@ -49,6 +49,12 @@ recipe-back r range =
   where
     whole-seed : {a b : ℕ} → a ≡ r .seed % 2 ^ 32 → b ≡ r .seed / 2 ^ 32 → a + 2 ^ 32 * b ≡ r .seed
     whole-seed e f = omega arith
+
+-- the bytes of one recipe, each where document 02 has it
+pub recipe-laid-out : bytesOfWords (recipeWords (record { version = 2; seed = 0x0123456789abcdef; m = 29; n = 124 }))
+    ≡ 239 ∷ 205 ∷ 171 ∷ 137 ∷ 103 ∷ 69 ∷ 35 ∷ 1 ∷ 29 ∷ 0 ∷ 0 ∷ 0 ∷ 124 ∷ 0 ∷ 0 ∷ 0 ∷ 2 ∷ 0 ∷ 0 ∷ 0 ∷ []
+unfolding bytesOfWords
+recipe-laid-out = refl
 
 module _ (text answer recipe : List ℕ) (x : ℕ × List ℕ × List ℕ) (answer-sized : length answer ≡ 16) (recipe-sized : length recipe ≡ 20)
     (call : ReaderCall text answer recipe x) where

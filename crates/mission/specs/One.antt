@@ -14,6 +14,7 @@ use lib.ListN.{length, replicate}
 use Rattle.answer.specs.Determined.{Determined}
 use Rattle.answer.specs.Verdicts.{numbersOf}
 use Rattle.answer.specs.declared.Answer.{Answer}
+use Rattle.label.specs.Label.{noRecipe}
 use Rattle.label.specs.Reading.{Reads}
 use Rattle.label.specs.Writing.{written, buffered}
 use Rattle.label.specs.declared.Recipe.{Recipe}
@@ -21,6 +22,7 @@ use Rattle.label.specs.declared.Reading.{Reading}
 use Rattle.maker.specs.Bytes.{makeOf, programAfter, memoryAfter}
 use Rattle.rules.specs.Sizes.{Parts}
 use Rattle.run.specs.Runs.{Input}
+use Rattle.uisnabar.specs.Calls.{recipeBytes}
 use Rattle.run.specs.Tabler.{answerFor, execLeft, extLeft}
 use Rattle.mission.specs.Promises.{
   IsRefusal,
@@ -62,13 +64,13 @@ pub record DemandOne : Type 0 where
   pub writer-keeps : (r : Recipe) (buffer : List ℕ) → IsRefusal (written r (length buffer) .answer)
       → (written r (length buffer) .length ≡ 0) × (buffered r buffer ≡ buffer)
   -- a refused label reads as version, seed, m and n all 0
-  pub reader-zeroes : (text : List ℕ) (r : Reading) → Reads text r → IsRefusal (r .answer) → r .recipe ≡ record { version = 0; seed = 0; m = 0; n = 0 }
+  pub reader-zeroes : (text : List ℕ) (r : Reading) → Reads text r → IsRefusal (r .answer) → r .recipe ≡ noRecipe
   -- ANSWER, 13, for an answer buffer of another length than 16, and for either buffer of the label's call: nothing is
   -- written
   pub judge-call-answer : (q : Parts) (buffer : List ℕ) (x : ℕ × List ℕ) → JudgeCall q buffer x → (length buffer ≡ 16 → ⊥)
       → (x .0 ≡ 13) × (x .1 ≡ buffer)
   pub reader-call-answer : (text answer recipe : List ℕ) (x : ℕ × List ℕ × List ℕ) → ReaderCall text answer recipe x
-      → (length answer ≡ 16 → ⊥) ⊎ (length recipe ≡ 20 → ⊥)
+      → (length answer ≡ 16 → ⊥) ⊎ (length recipe ≡ recipeBytes → ⊥)
       → (x .0 ≡ 13) × (x .1 ≡ answer) × (x .2 ≡ recipe)
   -- the label's call writes the recipe only on acceptance
   pub reader-call-keeps : (text answer recipe : List ℕ) (x : ℕ × List ℕ × List ℕ) → ReaderCall text answer recipe x → 1 ≤ x .0 → x .2 ≡ recipe

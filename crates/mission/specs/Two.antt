@@ -16,6 +16,7 @@ use Rattle.answer.specs.declared.Answer.the-variants.{Accepted}
 use Rattle.label.specs.Label.{InRange, labelOf}
 use Rattle.text_patterns.specs.Place.{Place}
 use Rattle.label.specs.Reading.{Valid, Reads}
+use Rattle.uisnabar.specs.Calls.{recipeBytes}
 use Rattle.label.specs.Writing.{written, buffered}
 use Rattle.label.specs.declared.Recipe.{Recipe}
 use Rattle.label.specs.declared.Reading.{Reading}
@@ -35,7 +36,7 @@ pub record DemandTwo : Type 0 where
   -- and so for a driver in C, from what `uisnabar_judge` promises
   pub driver-reads : (q : Parts) (buffer : List ℕ) (x : ℕ × List ℕ) → length buffer ≡ 16 → JudgeCall q buffer x → DriverReads q (x .0) (x .1)
   -- a driver reads a label as the reader does, from what `uisnabar_label` promises
-  pub driver-reads-label : (text answer recipe : List ℕ) (x : ℕ × List ℕ × List ℕ) → length answer ≡ 16 → length recipe ≡ 20
+  pub driver-reads-label : (text answer recipe : List ℕ) (x : ℕ × List ℕ × List ℕ) → length answer ≡ 16 → length recipe ≡ recipeBytes
       → ReaderCall text answer recipe x
       → DriverReadsLabel text (x .0) (x .1) (x .2)
   -- a recipe is written as one label, and the bytes after it keep what they held

@@ -22,17 +22,17 @@ module _ (text : List ℕ) (i : ℕ) (h : i ≤ length text) {r : Cursor} where
   behind v is = is ∙ ap (λ (k : ℕ). record { at = k; value = v; stopped = false }) (place text i h)
 
 -- what a field's reader promises of its cursor
-abbrev Read : List ℕ → Cursor → Pattern ℕ → Cursor → Type 0
-Read text from field r = (r ≡ readBehind field text from) × (r .at ≤ length text)
+abbrev pub Read : Pattern ℕ → List ℕ → Cursor → Cursor → Type 0
+Read field text from r = (r ≡ readBehind field text from) × (r .at ≤ length text)
 
 module _ (text : List ℕ) (from : Cursor) (field : Pattern ℕ) {r : Cursor} where
   -- nothing is read behind a cursor that has stopped
-  pub stays : from .at ≤ length text → from .stopped ≡ true → r ≡ record { at = from .at; value = 0; stopped = true } → Read text from field r
+  pub stays : from .at ≤ length text → from .stopped ≡ true → r ≡ record { at = from .at; value = 0; stopped = true } → Read field text from r
   stays h e is = (rw e (halted text (from .at) h is), rw is h)
 
   module _ (on : from .stopped ≡ false) (i : ℕ) (h : i ≤ length text) where
-    pub stops : parse field (drop (from .at) text) ≡ left (drop i text) → r ≡ record { at = i; value = 0; stopped = true } → Read text from field r
+    pub stops : parse field (drop (from .at) text) ≡ left (drop i text) → r ≡ record { at = i; value = 0; stopped = true } → Read field text from r
     stops e is = (rw (on, e) (halted text i h is), rw is h)
 
-    pub gets : (v : ℕ) → parse field (drop (from .at) text) ≡ got v (drop i text) → r ≡ record { at = i; value = v; stopped = false } → Read text from field r
+    pub gets : (v : ℕ) → parse field (drop (from .at) text) ≡ got v (drop i text) → r ≡ record { at = i; value = v; stopped = false } → Read field text from r
     gets v e is = (rw (on, e) (behind text i h v is), rw is h)

@@ -7,7 +7,7 @@ use lib.ListN.{length, drop}
 use Rattle.text_patterns.specs.Pattern.{Pattern, Parsed, got, left, parse, onto}
 use Rattle.text_fields.specs.declared.Cursor.{Cursor}
 
--- a cursor as a reading: a value and the bytes behind it, or the bytes before which the text left every valid one
+-- a cursor as a reading: a value and the bytes behind it; or those from which on the text is no valid one
 abbrev pub standing : List ℕ → Cursor → Parsed ℕ
 standing text c = cond (c .stopped) (left (drop (c .at) text)) (got (c .value) (drop (c .at) text))
 

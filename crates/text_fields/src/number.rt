@@ -36,7 +36,7 @@ fn next_digit(x: u64, high: u64, end: u8, byte: u8) -> Step
     Step::Stop
 }
 
-// A number from low, which is 0 or 1, to high.
+// A number from low, which is 0 or 1 and bounds its first digit, to high.
 pub fn read_number(text: &[u8], from: Cursor, low: u64, high: u64, end: u8) -> Cursor
     requires { ⌜ (from .at ≤ length (now text)) × (low ≤ high) × (high < 2 ^ 60) ⌝ }
     ensures { λ r. ⌜ (r ≡ readBehind (number decimalValue low high end) (now (text .entry)) from) × (r .at ≤ length (now (text .entry))) × (r .value ≤ high) ⌝ }

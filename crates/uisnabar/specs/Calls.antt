@@ -1,5 +1,5 @@
--- Document 01, "Draws, recipe, label", its last paragraph, and document 02, M-103: what the two exported functions
--- return, and every byte they leave.
+-- Document 01, "Draws, recipe, label", its last paragraph, and document 02, M-103: what judge and label reader
+-- return to C, and every byte they leave.
 -- Declared in src/: Answer (answer); Recipe, Reading (label).
 use Prim.Native.Nat.{ℕ, _/_, _%_, _^_}
 use mathlib.Core.Path.{_≡_}
@@ -26,9 +26,13 @@ answerTo program memory pc fp exec ext =
 abbrev pub recipeWords : Recipe → List ℕ
 recipeWords r = r .seed % 2 ^ 32 ∷ r .seed / 2 ^ 32 ∷ r .m ∷ r .n ∷ r .version ∷ []
 
+-- five words
+abbrev pub recipeBytes : ℕ
+recipeBytes = 20
+
 -- ANSWER covers either buffer
 abbrev pub bothFit : List ℕ → List ℕ → Bool
-bothFit answer recipe = eqb (length answer) 16 && eqb (length recipe) 20
+bothFit answer recipe = eqb (length answer) 16 && eqb (length recipe) recipeBytes
 
 -- a buffer of a size where a test holds and as it was where it doesn't
 abbrev pub held : Bool → ℕ → List ℕ → List ℕ → List ℕ
@@ -40,4 +44,4 @@ pub record LabelCall (text answer recipe answerAfter recipeAfter : List ℕ) (re
   pub reads : Reads text reading
   pub verdict : returned ≡ cond (bothFit answer recipe) (verdictOf (reading .answer)) (verdictOf Buffer)
   pub answered : answerAfter ≡ held (bothFit answer recipe) 16 answer (answerWords (reading .answer))
-  pub written : recipeAfter ≡ held (bothFit answer recipe && accepted (reading .answer)) 20 recipe (recipeWords (reading .recipe))
+  pub written : recipeAfter ≡ held (bothFit answer recipe && accepted (reading .answer)) recipeBytes recipe (recipeWords (reading .recipe))

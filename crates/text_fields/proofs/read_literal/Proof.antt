@@ -16,6 +16,9 @@ Inv-loop text word at i₀ j₀ i j =
 abbrev μ-loop : tie.MeasureT-loop
 μ-loop text word at i₀ j₀ i j = length word - j
 
+loop-holds : tie.Need-loop-holds Inv-loop μ-loop
+loop-holds c = (search needs, refl)
+
 returns : tie.Need-returns Inv-loop μ-loop
 returns c =
     let a = c .before .before .before .before .args in
@@ -57,7 +60,7 @@ read-literal-spec =
     μ-loop
     (λ c κs. search needs)
     returns
-    (λ c. (search needs, refl))
+    loop-holds
     (λ c κs. search needs)
     returns-2
     (λ c. search needs)
