@@ -44,30 +44,30 @@ upper-half seed d low high e =
 
 -- two recipes with one memory have the same cell 0
 module _ (m n : ℕ) where
-  abbrev pub made : ℕ → ℕ → Recipe
-  made version seed = record { version = version; seed = seed; m = m; n = n }
+  abbrev pub seeded : ℕ → ℕ → Recipe
+  seeded version seed = record { version = version; seed = seed; m = m; n = n }
 
-  pub first-cell : (v w x y : ℕ) → memoryOf (made v x) ≡ memoryOf (made w y) → drawsOf v x .cell 0 ≡ drawsOf w y .cell 0
+  pub first-cell : (v w x y : ℕ) → memoryOf (seeded v x) ≡ memoryOf (seeded w y) → drawsOf v x .cell 0 ≡ drawsOf w y .cell 0
   first-cell v w x y e = sym (read v x) ∙ ap (λ (s : List ℕ). wordAt s 0) e ∙ read w y
     where
-      read : (version seed : ℕ) → wordAt (memoryOf (made version seed)) 0 ≡ drawsOf version seed .cell 0
-      read version seed = cell-read (made version seed) 0 (pow-pos m) ∙ drawn-cell (drawsOf version seed) n 0 (lit< tt)
+      read : (version seed : ℕ) → wordAt (memoryOf (seeded version seed)) 0 ≡ drawsOf version seed .cell 0
+      read version seed = cell-read (seeded version seed) 0 (pow-pos m) ∙ drawn-cell (drawsOf version seed) n 0 (lit< tt)
 
   -- which is the first draw modulo p where that is below 2·p, whatever the versions
   module _ (v w : ℕ) where
     told-apart : (x y : ℕ) → drawn x 0 < 2 * p → drawn y 0 < 2 * p → eqb (drawn x 0 % p) (drawn y 0 % p) ≡ false
-        → memoryOf (made v x) ≡ memoryOf (made w y) → ⊥
+        → memoryOf (seeded v x) ≡ memoryOf (seeded w y) → ⊥
     told-apart x y kx ky differ e = eqb-false (drawn x 0 % p) (drawn y 0 % p) differ (sym (first-kept v x kx) ∙ first-cell v w x y e ∙ first-kept w y ky)
 
     -- 000000002fffffff, 000000012fffffff and ffffffff2fffffff: three memories
-    pub low-middle : memoryOf (made v 805306367) ≡ memoryOf (made w 5100273663) → ⊥
+    pub low-middle : memoryOf (seeded v 805306367) ≡ memoryOf (seeded w 5100273663) → ⊥
     unfolding stateAfter advance
     low-middle = told-apart 805306367 5100273663 (lit< tt) (lit< tt) refl
 
-    pub low-high : memoryOf (made v 805306367) ≡ memoryOf (made w 18446744070219890687) → ⊥
+    pub low-high : memoryOf (seeded v 805306367) ≡ memoryOf (seeded w 18446744070219890687) → ⊥
     unfolding stateAfter advance
     low-high = told-apart 805306367 18446744070219890687 (lit< tt) (lit< tt) refl
 
-    pub middle-high : memoryOf (made v 5100273663) ≡ memoryOf (made w 18446744070219890687) → ⊥
+    pub middle-high : memoryOf (seeded v 5100273663) ≡ memoryOf (seeded w 18446744070219890687) → ⊥
     unfolding stateAfter advance
     middle-high = told-apart 5100273663 18446744070219890687 (lit< tt) (lit< tt) refl

@@ -11,7 +11,7 @@ use Rattle.maker_draws.specs.Plain.{plainDraws}
 use Rattle.maker_draws.proofs.Versions.{first-plain, later-alike}
 use Rattle.maker_draws.proofs.Examples.{eight-thrown}
 use Rattle.maker.specs.Bytes.{instructionsOf, cellsOf, recipeDraws, programOf, memoryOf}
-use Rattle.maker.proofs.Seeds.{made, first-cell}
+use Rattle.maker.proofs.Seeds.{seeded, first-cell}
 
 pub first-as-before : (r : Recipe) → r .version ≡ 1
     → (programOf r ≡ instructionsOf (plainDraws (r .seed)) (r .n) (r .n + 1)) × (memoryOf r ≡ cellsOf (plainDraws (r .seed)) (r .n) (2 ^ r .m))
@@ -20,7 +20,7 @@ first-as-before r is =
     (ap (λ (d : Draws). instructionsOf d (r .n) (r .n + 1)) e, ap (λ (d : Draws). cellsOf d (r .n) (2 ^ r .m)) e)
 
 -- seed 00ffdb37cb0c5f43: eight draws of a later version are thrown away
-pub versions-differ : (m n version : ℕ) → eqb version 1 ≡ false → memoryOf (made m n 1 72017151737487171) ≡ memoryOf (made m n version 72017151737487171) → ⊥
+pub versions-differ : (m n version : ℕ) → eqb version 1 ≡ false → memoryOf (seeded m n 1 72017151737487171) ≡ memoryOf (seeded m n version 72017151737487171) → ⊥
 versions-differ m n version later e =
     eqb-false 11282249 1030086921 refl
     (sym (eight-thrown .3) ∙ first-cell m n 1 version 72017151737487171 72017151737487171 e
