@@ -1,6 +1,7 @@
 -- The invariant: what is left of the digits gives the whole reading, and the number so far fits. The measure is the
 -- digits left.
-use Prim.Native.Nat.{_+_, _-_, _^_, _≤_, _<_}
+use Prim.Native.Nat.{ℕ, _+_, _-_, _^_, _≤_, _<_}
+use mathlib.Core.List.{List}
 use mathlib.Core.Path.{_≡_, refl, _∙_}
 use native.Mathlib.Nat.{add-zero}
 use native.Mathlib.Omega.{arith}
@@ -22,8 +23,12 @@ Inv-loop text at x₀ k₀ x k =
 abbrev μ-loop : tie.MeasureT-loop
 μ-loop text at x₀ k₀ x k = 16 - k
 
+-- before the first digit all of them are left
+none-yet : (text : List ℕ) (at : ℕ) → parse (digits 16 hexValue 16 0) (drop at text) ≡ parse (digits 16 hexValue (16 - 0) 0) (drop (at + 0) text)
+none-yet text at = rw (add-zero at)
+
 loop-holds : tie.Need-loop-holds Inv-loop μ-loop
-loop-holds c = (omega arith, omega arith, rw (add-zero (c .before .args .at)))
+loop-holds c = (omega arith, omega arith, none-yet (c .before .args .text .now) (c .before .args .at))
 
 mul-x : tie.Need-mul-x Inv-loop μ-loop
 mul-x c =
