@@ -8,7 +8,7 @@ use native.Mathlib.Omega.{arith}
 use lib.ListN.{drop}
 use Rattle.text_patterns.specs.Pattern.{done, lit, seq, got, left, parse}
 use Rattle.text_patterns.specs.Fields.{digits, one, number}
-use Rattle.text_patterns.proofs.Order.{by-test}
+use Rattle.word.proofs.Tests.{cases}
 use Rattle.text_fields.specs.Digit.{hexValue, decimalValue}
 use Rattle.text_fields.specs.declared.Cursor.{Cursor}
 use Rattle.text_fields.proofs.Standing.{Read}
@@ -24,7 +24,7 @@ start = record { at = 0; value = 0; stopped = false }
 -- behind the last field a recipe is known, or nothing is
 last : (text : List ℕ) (c : Cursor) (r : Recipe) → toward (done r) text c ≡ cond (c .stopped) (left (drop (c .at) text)) (got r (drop (c .at) text))
 unfolding parse
-last text c r = by-test (c .stopped) (λ e. rw e) (λ e. rw e)
+last text c r = cases (c .stopped) (λ e. rw e) (λ e. rw e)
 
 module _ (text : List ℕ) {a v b s d t u e n : Cursor} where
   pub by-fields : Read (lit versionText (done 0)) text start a → Read (one decimalValue 1 2) text a v

@@ -9,7 +9,7 @@ use lib.Dec.{lit<}
 use borrow.Author.Tests.{lt-ltb, le-ltb}
 use Rattle.lines.specs.Line.{digit, decimalIn, decimal}
 use Rattle.text_patterns.specs.Fields.{Digits, lowest, numeral}
-use Rattle.text_patterns.proofs.Order.{by-order}
+use Rattle.word.proofs.Tests.{by-order}
 use Rattle.text_patterns.proofs.Digits.{lowest-last}
 use Rattle.text_patterns.proofs.Number.{numeral-small, numeral-large}
 use Rattle.text_fields.specs.Digit.{hexValue, decimalValue}

@@ -9,7 +9,7 @@ use lib.ListN.{length, length-append}
 use Rattle.lines.specs.Line.{decimal}
 use Rattle.text_patterns.specs.Place.{Place}
 use Rattle.text_patterns.proofs.Law.{shared-most}
-use Rattle.text_patterns.proofs.Order.{by-order}
+use Rattle.word.proofs.Tests.{by-order}
 use Rattle.label.specs.Label.{ranged, labelOf, hexDigits, versionText, seedText, mText, nText}
 use Rattle.label.specs.Reading.{Valid}
 use Rattle.label.specs.declared.Recipe.{Recipe}

@@ -1,43 +1,41 @@
 -- What a recipe's range says of its numbers.
 -- Assumes nothing.
 use Prim.Native.Nat.{ℕ, _≤_}
-use mathlib.Core.Bool.{true, _&&_}
+use mathlib.Core.Bool.{true}
+use mathlib.Core.List.{[], _∷_}
 use mathlib.Core.Path.{_≡_}
 use lib.Dec.{leb}
 use borrow.Author.Tests.{leb-true, le-leb}
-use Rattle.text_patterns.proofs.Order.{both}
+use Rattle.word.proofs.Tests.{Each, each}
 use Rattle.label.specs.Label.{ranged, within}
 use Rattle.label.specs.declared.Recipe.{Recipe}
 
 inside : (low high x : ℕ) → within low high x ≡ true → (low ≤ x) × (x ≤ high)
 inside low high x e =
-    let b = both (leb low x) (leb x high) e in
+    let b = each (leb low x) (leb x high ∷ []) e in
     (leb-true low x (b .0), leb-true x high (b .1))
 
 module _ (r : Recipe) (h : ranged r ≡ true) where
-  halves : (within 1 2 (r .version) && within 10 29 (r .m) ≡ true) × (within 1 124 (r .n) ≡ true)
-  halves = both (within 1 2 (r .version) && within 10 29 (r .m)) (within 1 124 (r .n)) h
-
-  first : (within 1 2 (r .version) ≡ true) × (within 10 29 (r .m) ≡ true)
-  first = both (within 1 2 (r .version)) (within 10 29 (r .m)) (halves .0)
+  three : Each (within 1 2 (r .version)) (within 10 29 (r .m) ∷ within 1 124 (r .n) ∷ [])
+  three = each (within 1 2 (r .version)) (within 10 29 (r .m) ∷ within 1 124 (r .n) ∷ []) h
 
   pub version-low : 1 ≤ r .version
-  version-low = inside 1 2 (r .version) (first .0) .0
+  version-low = inside 1 2 (r .version) (three .0) .0
 
   pub version-high : r .version ≤ 2
-  version-high = inside 1 2 (r .version) (first .0) .1
+  version-high = inside 1 2 (r .version) (three .0) .1
 
   pub m-low : 10 ≤ r .m
-  m-low = inside 10 29 (r .m) (first .1) .0
+  m-low = inside 10 29 (r .m) (three .1 .0) .0
 
   pub m-high : r .m ≤ 29
-  m-high = inside 10 29 (r .m) (first .1) .1
+  m-high = inside 10 29 (r .m) (three .1 .0) .1
 
   pub n-low : 1 ≤ r .n
-  n-low = inside 1 124 (r .n) (halves .1) .0
+  n-low = inside 1 124 (r .n) (three .1 .1) .0
 
   pub n-high : r .n ≤ 124
-  n-high = inside 1 124 (r .n) (halves .1) .1
+  n-high = inside 1 124 (r .n) (three .1 .1) .1
 
 -- numbers in their ranges are a recipe's
 pub in-ranges : (r : Recipe) → (1 ≤ r .version) × (r .version ≤ 2) → (10 ≤ r .m) × (r .m ≤ 29) → (1 ≤ r .n) × (r .n ≤ 124) → ranged r ≡ true

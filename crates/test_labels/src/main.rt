@@ -82,41 +82,26 @@ fn show_writing(version: u32, seed: u64, m: u32, n: u32, room: usize) {
     show_written(recipe, room, &mut bytes);
 }
 
-fn show_first_version() {
-    show_writing(1, 0, 10, 1, 48);
-    show_writing(1, 0, 10, 1, 35);
-    show_writing(1, 0, 10, 1, 34);
-    show_writing(1, 0x12fffffff, 10, 9, 48);
-    show_writing(1, 0x2fffffff, 10, 10, 36);
-    show_writing(1, 0xffffffff2fffffff, 19, 10, 35);
-    show_writing(1, 0xffffffffffffffff, 20, 99, 48);
-    show_writing(1, 0x0123456789abcdef, 29, 100, 37);
-    show_writing(1, 0xfedcba9876543210, 29, 124, 37);
-    show_writing(1, 0xfedcba9876543210, 29, 124, 36);
-    show_writing(1, 0xfedcba9876543210, 29, 124, 0);
-    show_writing(1, 1, 9, 1, 48);
-    show_writing(1, 1, 30, 1, 48);
-    show_writing(1, 1, 10, 0, 48);
-    show_writing(1, 1, 10, 125, 48);
-    show_writing(1, 1, 0, 0, 0);
-    show_writing(1, 1, 4294967295, 4294967295, 48);
-}
-
-fn show_second_version() {
-    show_writing(2, 0, 10, 1, 48);
-    show_writing(2, 0, 10, 1, 35);
-    show_writing(2, 0, 10, 1, 34);
-    show_writing(2, 0x00ffdb37cb0c5f43, 10, 9, 48);
-    show_writing(2, 0x2fffffff, 10, 10, 36);
-    show_writing(2, 0xffffffff2fffffff, 19, 10, 35);
-    show_writing(2, 0xffffffffffffffff, 20, 99, 48);
-    show_writing(2, 0xfedcba9876543210, 29, 124, 37);
-    show_writing(2, 0xfedcba9876543210, 29, 124, 36);
-    show_writing(2, 0xfedcba9876543210, 29, 124, 0);
-    show_writing(2, 1, 9, 1, 48);
-    show_writing(2, 1, 30, 1, 48);
-    show_writing(2, 1, 10, 0, 48);
-    show_writing(2, 1, 10, 125, 48);
+// The same of each version that is known: labels that fit, that do not, and recipes out of range.
+fn show_version(version: u32) {
+    show_writing(version, 0, 10, 1, 48);
+    show_writing(version, 0, 10, 1, 35);
+    show_writing(version, 0, 10, 1, 34);
+    show_writing(version, 0x12fffffff, 10, 9, 48);
+    show_writing(version, 0x00ffdb37cb0c5f43, 10, 9, 48);
+    show_writing(version, 0x2fffffff, 10, 10, 36);
+    show_writing(version, 0xffffffff2fffffff, 19, 10, 35);
+    show_writing(version, 0xffffffffffffffff, 20, 99, 48);
+    show_writing(version, 0x0123456789abcdef, 29, 100, 37);
+    show_writing(version, 0xfedcba9876543210, 29, 124, 37);
+    show_writing(version, 0xfedcba9876543210, 29, 124, 36);
+    show_writing(version, 0xfedcba9876543210, 29, 124, 0);
+    show_writing(version, 1, 9, 1, 48);
+    show_writing(version, 1, 30, 1, 48);
+    show_writing(version, 1, 10, 0, 48);
+    show_writing(version, 1, 10, 125, 48);
+    show_writing(version, 1, 0, 0, 0);
+    show_writing(version, 1, 4294967295, 4294967295, 48);
 }
 
 fn show_other_versions() {
@@ -136,7 +121,7 @@ fn main() {
     let mut space = io::large_buffer();
     let got = io::read_full(STDIN_FILENO, &mut space);
     show_readings(&space[..got]);
-    show_first_version();
-    show_second_version();
+    show_version(1);
+    show_version(2);
     show_other_versions();
 }

@@ -4,11 +4,11 @@ use label::write_label;
 use reply::reply;
 ghost use mathlib.Core.Path.{_≡_};
 ghost use lib.ListN.{length};
+ghost use Rattle.label.specs.Reader.{recipeOf};
 ghost use Rattle.label.specs.Writing.{written, buffered};
 ghost use Rattle.maker.specs.Bytes.{makeOf, programAfter, memoryAfter};
 ghost use Rattle.reply.specs.Reply.{returned, replied};
 ghost use Rattle.tabler_spec.specs.Tabled.{tableOf, execAfter, extAfter};
-ghost use Rattle.test_probe.specs.Probes.{recipeOf};
 
 fn recipe(version: u32, seed: u64, m: u32, n: u32) -> Recipe
     ensures { λ r. ⌜ r ≡ recipeOf version seed m n ⌝ }

@@ -2,10 +2,11 @@
 -- Assumes nothing.
 use Prim.Native.Nat.{ℕ, zero, suc, _+_, _<_}
 use mathlib.Core.Bool.{Bool, true, _&&_}
+use mathlib.Core.List.{[], _∷_}
 use mathlib.Core.Path.{_≡_, subst}
 use native.Mathlib.Numerals.{add-one}
 use native.Mathlib.Omega.{arith}
-use Rattle.text_patterns.proofs.Order.{by-order, both}
+use Rattle.word.proofs.Tests.{by-order, each}
 use Rattle.text_fields.specs.Digit.{every}
 
 module _ (f : ℕ → Bool) where
@@ -17,5 +18,5 @@ module _ (f : ℕ → Bool) where
   unfolding every
   every-at zero k h e = absurd (omega arith)
   every-at (suc n) k h e =
-      let p = both (every f n) (f n) e in
+      let p = each (every f n) (f n ∷ []) e in
       by-order k n (λ a. every-at n k a (p .0)) (λ a. subst (λ (j : ℕ). f j ≡ true) (omega arith) (p .1))

@@ -6,7 +6,7 @@ use mathlib.Core.Path.{_≡_}
 use native.Mathlib.Omega.{arith}
 use lib.Dec.{leb, ltb}
 use borrow.Author.Tests.{lt-ltb, le-ltb, le-leb, lt-leb}
-use Rattle.text_patterns.proofs.Order.{by-order}
+use Rattle.word.proofs.Tests.{by-order}
 use Rattle.text_fields.specs.Digit.{hexValue}
 
 -- a byte is a hex digit where it is in one of the two ranges

@@ -9,9 +9,9 @@ use lib.Dec.{ltb, leb, eqb}
 use lib.ListN.{length, getD, drop}
 use Rattle.text_patterns.specs.Pattern.{Pattern, done, parse, got, left}
 use Rattle.text_patterns.specs.Fields.{follows, numberFrom, number}
-use Rattle.text_patterns.proofs.Order.{by-test, both}
+use Rattle.word.proofs.Tests.{cases}
+use Rattle.text_patterns.proofs.Number.{starting, fitting}
 use Rattle.text_patterns.proofs.Parsing.{parse-on, parse-stop, parse-end}
-use borrow.Author.Tests.{ltb-true, leb-true}
 use Rattle.text_fields.proofs.Range.{digit-outside, digit-inside}
 use Rattle.text_fields.specs.Digit.{decimalValue, nextDigit}
 use Rattle.text_fields.specs.declared.number.Step.{Step}
@@ -20,8 +20,8 @@ use Rattle.text_fields.specs.declared.number.Step.the-variants.{On, End,
 as-fits : (x high end b : ℕ) → nextDigit x high end b ≡ cond (eqb end b) End (cond (follows high x (decimalValue b)) (On (10 * x + decimalValue b)) Stop)
 unfolding nextDigit
 as-fits x high end b =
-    by-test (ltb (decimalValue b) 10)
-    (λ e. by-test (ltb 0 x) (λ f. by-test (leb (10 * x + decimalValue b) high) (λ g. rw (e, f, g)) (λ g. rw (e, f, g))) (λ f. rw (e, f))) (λ e. rw e)
+    cases (ltb (decimalValue b) 10)
+    (λ e. cases (ltb 0 x) (λ f. cases (leb (10 * x + decimalValue b) high) (λ g. rw (e, f, g)) (λ g. rw (e, f, g))) (λ f. rw (e, f))) (λ e. rw e)
 
 -- what the answer tells of the byte
 module _ (x high end b : ℕ) where
@@ -68,7 +68,7 @@ module _ (low high end : ℕ) (text : List ℕ) (at : ℕ) where
         record {
           k = high;
           room = omega arith;
-          below = leb-true d high (both (leb low d) (leb d high) (both (ltb d 10) (leb low d && leb d high) ok .1) .1);
+          below = starting high low d ok .2;
           reads = parse-on First Rest text at h (rw (← e) ok) ∙ ap (λ (y : ℕ). parse (numberFrom decimalValue high end high y) (drop (at + 1) text)) (sym e);
         }
 
@@ -79,12 +79,6 @@ module _ (low high end : ℕ) (text : List ℕ) (at : ℕ) where
   pub nothing : length text ≤ at → parse Number (drop at text) ≡ left (drop at text)
   unfolding number
   nothing h = parse-end First Rest text at h
-
-fitting : (high x d : ℕ) → follows high x d ≡ true → (d < 10) × (0 < x) × (10 * x + d ≤ high)
-fitting high x d e =
-    let p = both (ltb d 10) (ltb 0 x && leb (10 * x + d) high) e in
-    let q = both (ltb 0 x) (leb (10 * x + d) high) (p .1) in
-    (ltb-true d 10 (p .0), ltb-true 0 x (q .0), leb-true (10 * x + d) high (q .1))
 
 module _ (f : Pattern ℕ) (high end : ℕ) (text : List ℕ) (at i x : ℕ) (h : i < length text) where
   abbrev b : ℕ

@@ -9,7 +9,7 @@ use lib.ListN.{length, drop, length-drop}
 use lib.Seq.{drop-drop}
 use Rattle.text_patterns.specs.Reader.{count}
 use Rattle.text_patterns.specs.Pattern.{Pattern, done, step, lit, seq, Live, Parsed, got, left, parse, unread, onto}
-use Rattle.text_patterns.proofs.Order.{by-test}
+use Rattle.word.proofs.Tests.{cases}
 use Rattle.text_patterns.proofs.Parsing.{count-most, parse-rest, parse-seq, parse-lit-then}
 use Rattle.text_fields.specs.Field.{standing, cursorAt, readBehind}
 use Rattle.text_fields.specs.declared.Cursor.{Cursor}
@@ -40,7 +40,7 @@ stands-at text i h (left rest) e = ap left (last text i h rest e)
 module _ (text : List ℕ) (from : Cursor) (h : from .at ≤ length text) (f : Pattern ℕ) where
   stands : standing text (readBehind f text from) ≡ onto (λ v. parse f) (standing text from)
   stands =
-      by-test (from .stopped) (λ e. rw e (stands-at text (from .at) h (left (drop (from .at) text)) refl))
+      cases (from .stopped) (λ e. rw e (stands-at text (from .at) h (left (drop (from .at) text)) refl))
       (λ e.
       let t = drop (from .at) text in
       let k = count step f t in
@@ -56,7 +56,7 @@ module _ {A : Type 0} (text : List ℕ) (from c : Cursor) (h : from .at ≤ leng
       ∙ ap (onto (λ u. parse f)) (sym (ap (standing text) is ∙ stands text from h (lit w (done 0))))
 
   known : (k : ℕ → Pattern A) → onto (λ v. parse (k v)) (standing text c) ≡ toward (k (c .value)) text c
-  known k = by-test (c .stopped) (λ e. rw e) (λ e. rw e)
+  known k = cases (c .stopped) (λ e. rw e) (λ e. rw e)
 
   -- behind a field, whose value the cursor has
   pub past-field : (f : Pattern ℕ) (k : ℕ → Pattern A) (P : ℕ → Type 0) → Live false P f → c ≡ readBehind f text from

@@ -12,7 +12,7 @@ use Rattle.text_patterns.specs.Pattern.{Spells, Live, Spelling}
 use Rattle.text_patterns.specs.Fields.{Digits, lowest, digits, one}
 use Rattle.text_patterns.proofs.Patterns.{spells-kind}
 use Rattle.text_patterns.proofs.Joined.{live-as}
-use Rattle.text_patterns.proofs.Order.{both, all}
+use Rattle.word.proofs.Tests.{each}
 
 module _ {base : ℕ} {byte value : ℕ → ℕ} (D : Digits base byte value) where
   abbrev Begins : ℕ → ℕ → ℕ → Type 0
@@ -65,19 +65,19 @@ module _ {base : ℕ} {byte value : ℕ → ℕ} (D : Digits base byte value) wh
   unfolding one
   spelling-one low high l h = record {
     live = (
-      (byte low, rw (D .value-byte low (omega arith)) (all (leb low low) (leb low high) (le-leb low low (omega arith)) (le-leb low high l))),
-      λ b e. let p = both (leb low (value b)) (leb (value b) high) e in
+      (byte low, rw (D .value-byte low (omega arith)) (rw (le-leb low low (omega arith), le-leb low high l))),
+      λ b e. let p = each (leb low (value b)) (leb (value b) high ∷ []) e in
           (leb-true low (value b) (p .0), leb-true (value b) high (p .1)),
     );
     sound = sound;
     complete = λ a p. rw (D .value-byte a (omega arith))
-        (all (leb low a) (leb a high) (le-leb low a (p .0)) (le-leb a high (p .1)), refl);
+        (rw (le-leb low a (p .0), le-leb a high (p .1)), refl);
   }
     where
       sound : (t : List ℕ) (a : ℕ) → Spells (one value low high) t a → byte a ∷ [] ≡ t
       sound [] a r = absurd r
       sound (b ∷ []) a r =
-          let v : value b < base = omega (arith, leb-true (value b) high (both (leb low (value b)) (leb (value b) high) (r .0) .1)) in
+          let v : value b < base = omega (arith, leb-true (value b) high (each (leb low (value b)) (leb (value b) high ∷ []) (r .0) .1)) in
           ap (λ (c : ℕ). c ∷ []) (rw (← (r .1)) (D .byte-value b v))
       sound (b ∷ c ∷ t) a r = absurd (r .1)
 

@@ -11,7 +11,7 @@ use lib.Dec.{eqb}
 use lib.ListN.{length, take}
 use lib.Seq.{take-nil}
 use borrow.Author.Tests.{eq-eqb, eqb-true}
-use Rattle.text_patterns.proofs.Order.{by-test}
+use Rattle.word.proofs.Tests.{cases}
 use Rattle.text_patterns.specs.Place.{shared, Place}
 use Rattle.text_patterns.specs.Reader.{onward, follow, count, Taken, Reader}
 
@@ -29,7 +29,7 @@ pub shared-most : (xs ys : List ℕ) → shared xs ys ≤ length xs
 unfolding shared
 shared-most [] ys = omega arith
 shared-most (x ∷ xs) [] = omega arith
-shared-most (x ∷ xs) (y ∷ ys) = by-test (eqb x y) (λ e. rw e (omega (arith, shared-most xs ys))) (λ e. rw e (omega arith))
+shared-most (x ∷ xs) (y ∷ ys) = cases (eqb x y) (λ e. rw e (omega (arith, shared-most xs ys))) (λ e. rw e (omega arith))
 
 pub shared-cut : (xs ys : List ℕ) (k : ℕ) → length xs ≤ k → shared xs (take k ys) ≡ shared xs ys
 unfolding shared

@@ -1,7 +1,6 @@
 pub mod Law
 pub mod Patterns
 pub mod Joined
-pub mod Order
 pub mod Digits
 pub mod Number
 pub mod Parsing

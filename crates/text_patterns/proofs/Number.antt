@@ -1,4 +1,4 @@
--- A number in numeral, with no leading zero, and the byte that ends it.
+-- A number in decimal, with no leading zero, and the byte that ends it.
 -- Assumes nothing.
 use Prim.Native.Nat.{ℕ, zero, suc, _+_, _*_, _/_, _%_, _≤_, _<_}
 use mathlib.Core.Bool.{true, false, _&&_}
@@ -10,7 +10,7 @@ use lib.Seq.{append-snoc}
 use borrow.Author.Tests.{ltb-true, lt-ltb, le-ltb, le-leb, leb-true, eq-eqb, eqb-true, ne-eqb}
 use Rattle.text_patterns.specs.Pattern.{Pattern, done, Spells, Live, Spelling}
 use Rattle.text_patterns.specs.Fields.{Digits, numeralBy, numeral, follows, numberFrom, number}
-use Rattle.text_patterns.proofs.Order.{by-order, by-test, both}
+use Rattle.word.proofs.Tests.{by-order, cases, each}
 
 -- the digits of a number
 module _ (byte : ℕ → ℕ) where
@@ -48,6 +48,20 @@ module _ (byte : ℕ → ℕ) where
       let r : (10 * x + d) % 10 ≡ d = omega arith in
       rw (numeral-large (10 * x + d) (omega arith), q, r) (append-snoc (numeral byte x) (byte d) t)
 
+-- a digit that starts a number of a range, and one that follows the digits of x
+module _ (high : ℕ) where
+  pub starting : (low d : ℕ) → ltb d 10 && (leb low d && leb d high) ≡ true → (d < 10) × (low ≤ d) × (d ≤ high)
+  starting low d e =
+      let p = each (ltb d 10) ((leb low d && leb d high) ∷ []) e in
+      let q = each (leb low d) (leb d high ∷ []) (p .1) in
+      (ltb-true d 10 (p .0), leb-true low d (q .0), leb-true d high (q .1))
+
+  pub fitting : (x d : ℕ) → follows high x d ≡ true → (d < 10) × (0 < x) × (10 * x + d ≤ high)
+  fitting x d e =
+      let p = each (ltb d 10) ((ltb 0 x && leb (10 * x + d) high) ∷ []) e in
+      let q = each (ltb 0 x) (leb (10 * x + d) high ∷ []) (p .1) in
+      (ltb-true d 10 (p .0), ltb-true 0 x (q .0), leb-true (10 * x + d) high (q .1))
+
 module _ {byte value : ℕ → ℕ} (D : Digits 10 byte value) (low high end : ℕ) (zero-or-one : low ≤ 1) (some : low ≤ high) (stops : 10 ≤ value end) where
   abbrev Ranged : ℕ → Type 0
   Ranged x = (low ≤ x) × (x ≤ high)
@@ -55,33 +69,19 @@ module _ {byte value : ℕ → ℕ} (D : Digits 10 byte value) (low high end : �
   abbrev From : ℕ → ℕ → Pattern ℕ
   From = numberFrom value high end
 
-  -- a digit that follows
-  fitting : (x d : ℕ) → follows high x d ≡ true → (d < 10) × (0 < x) × (10 * x + d ≤ high)
-  fitting x d e =
-      let p = both (ltb d 10) (ltb 0 x && leb (10 * x + d) high) e in
-      let q = both (ltb 0 x) (leb (10 * x + d) high) (p .1) in
-      (ltb-true d 10 (p .0), ltb-true 0 x (q .0), leb-true (10 * x + d) high (q .1))
-
   follows-on : (x d : ℕ) → d < 10 → 0 < x → 10 * x + d ≤ high → follows high x d ≡ true
   follows-on x d h i j = rw (lt-ltb d 10 h, lt-ltb 0 x i, le-leb (10 * x + d) high j)
 
   ranged-on : (x d : ℕ) → follows high x d ≡ true → Ranged (10 * x + d)
-  ranged-on x d e = let f = fitting x d e in omega arith
+  ranged-on x d e = let f = fitting high x d e in omega arith
 
   live-from : (k x : ℕ) → Ranged x → Live false Ranged (From k x)
   unfolding numberFrom
   live-from zero x r = ((end, eq-eqb end end refl), λ b e. r)
   live-from (suc k) x r = (
     (end, rw (eq-eqb end end refl)),
-    λ b e. by-test (eqb end b) (λ y. rw y r) (λ y. rw y (live-from k (10 * x + value b) (ranged-on x (value b) (rw y at e)))),
+    λ b e. cases (eqb end b) (λ y. rw y r) (λ y. rw y (live-from k (10 * x + value b) (ranged-on x (value b) (rw y at e)))),
   )
-
-  -- a digit that starts a number
-  starting : (d : ℕ) → ltb d 10 && (leb low d && leb d high) ≡ true → (d < 10) × (low ≤ d) × (d ≤ high)
-  starting d e =
-      let p = both (ltb d 10) (leb low d && leb d high) e in
-      let q = both (leb low d) (leb d high) (p .1) in
-      (ltb-true d 10 (p .0), leb-true low d (q .0), leb-true d high (q .1))
 
   starts-on : (d : ℕ) → d < 10 → Ranged d → ltb d 10 && (leb low d && leb d high) ≡ true
   starts-on d h r = rw (lt-ltb d 10 h, le-leb low d (r .0), le-leb d high (r .1))
@@ -90,7 +90,7 @@ module _ {byte value : ℕ → ℕ} (D : Digits 10 byte value) (low high end : �
   unfolding number
   live-number = (
     (byte low, rw (D .value-byte low (omega arith)) (starts-on low (omega arith) (omega arith))),
-    λ b e. let f = starting (value b) e in live-from high (value b) (f .1, f .2),
+    λ b e. let f = starting high low (value b) e in live-from high (value b) (f .1, f .2),
   )
 
   -- what is read from the end byte on
@@ -104,8 +104,8 @@ module _ {byte value : ℕ → ℕ} (D : Digits 10 byte value) (low high end : �
   sound-from zero x (b ∷ t) a h = ending x b t a (h .0) (h .1)
   sound-from (suc k) x [] a h = absurd h
   sound-from (suc k) x (b ∷ t) a h =
-      by-test (eqb end b) (λ y. ending x b t a y (rw y at (h .1)))
-      (λ y. let f = fitting x (value b) (rw y at (h .0)) in
+      cases (eqb end b) (λ y. ending x b t a y (rw y at (h .1)))
+      (λ y. let f = fitting high x (value b) (rw y at (h .0)) in
       sound-from k (10 * x + value b) t a (rw y at (h .1))
       ∙ numeral-on byte x (value b) t (f .1) (f .0)
       ∙ ap (λ (c : ℕ). numeral byte x ++ (c ∷ t)) (D .byte-value b (f .0)))
@@ -114,7 +114,7 @@ module _ {byte value : ℕ → ℕ} (D : Digits 10 byte value) (low high end : �
   unfolding number
   sound-number [] a h = absurd h
   sound-number (b ∷ t) a h =
-      let f = starting (value b) (h .0) in
+      let f = starting high low (value b) (h .0) in
       sound-from high (value b) t a (h .1) ∙ rw (numeral-small byte (value b) (f .0), D .byte-value b (f .0))
 
   -- a number's digits lead to where the rest of it is read

@@ -13,7 +13,7 @@ use lib.Dec.{eqb}
 use Rattle.text_patterns.specs.Place.{Place}
 use Rattle.text_patterns.specs.Reader.{count}
 use Rattle.text_patterns.specs.Pattern.{Pattern, done, node, more, step, Spells, Live, Spelling, lit, seq, Parsed, got, left, parse, unread, onto}
-use Rattle.text_patterns.proofs.Order.{by-test}
+use Rattle.word.proofs.Tests.{cases}
 use Rattle.text_patterns.proofs.Patterns.{Valid, spells-kind, pattern-place}
 
 module _ {A : Type 0} where
@@ -24,10 +24,10 @@ module _ {A : Type 0} where
   count-parse (done a) (b ∷ t) = omega arith
   count-parse (node ok f) [] = omega arith
   count-parse (node ok f) (b ∷ t) =
-      by-test (ok b) (λ e. rw e (omega (arith, count-parse (f b) t))) (λ e. rw e (omega arith))
+      cases (ok b) (λ e. rw e (omega (arith, count-parse (f b) t))) (λ e. rw e (omega arith))
   count-parse (more a ok f) [] = omega arith
   count-parse (more a ok f) (b ∷ t) =
-      by-test (ok b) (λ e. rw e (omega (arith, count-parse (f b) t))) (λ e. rw e (omega arith))
+      cases (ok b) (λ e. rw e (omega (arith, count-parse (f b) t))) (λ e. rw e (omega arith))
 
   pub count-most : (f : Pattern A) (t : List ℕ) → count step f t ≤ length t
   count-most f t = omega (arith, count-parse f t)
@@ -38,9 +38,9 @@ module _ {A : Type 0} where
   parse-rest (done a) [] = refl
   parse-rest (done a) (b ∷ t) = refl
   parse-rest (node ok f) [] = refl
-  parse-rest (node ok f) (b ∷ t) = by-test (ok b) (λ e. rw e (parse-rest (f b) t)) (λ e. rw e)
+  parse-rest (node ok f) (b ∷ t) = cases (ok b) (λ e. rw e (parse-rest (f b) t)) (λ e. rw e)
   parse-rest (more a ok f) [] = refl
-  parse-rest (more a ok f) (b ∷ t) = by-test (ok b) (λ e. rw e (parse-rest (f b) t)) (λ e. rw e)
+  parse-rest (more a ok f) (b ∷ t) = cases (ok b) (λ e. rw e (parse-rest (f b) t)) (λ e. rw e)
 
   pub spells-parse : (f : Pattern A) (t : List ℕ) (a : A) → Spells f t a → parse f t ≡ got a []
   unfolding parse
@@ -57,11 +57,11 @@ module _ {A : Type 0} where
   parse-spells (done x) (b ∷ t) a h = let z : _≡_ {A = ℕ} 0 1 = cc in absurd (omega arith)
   parse-spells (node ok f) [] a h = let z : _≡_ {A = ℕ} 0 1 = cc in absurd (omega arith)
   parse-spells (node ok f) (b ∷ t) a h =
-      by-test (ok b) (λ e. (e, parse-spells (f b) t a (rw e at h)))
+      cases (ok b) (λ e. (e, parse-spells (f b) t a (rw e at h)))
       (λ e. let y = rw e at h in let z : _≡_ {A = ℕ} 0 1 = cc in absurd (omega arith))
   parse-spells (more x ok f) [] a h = cc
   parse-spells (more x ok f) (b ∷ t) a h =
-      by-test (ok b) (λ e. (e, parse-spells (f b) t a (rw e at h)))
+      cases (ok b) (λ e. (e, parse-spells (f b) t a (rw e at h)))
       (λ e. let y = rw e at h in let z : _≡_ {A = ℕ} 0 1 = cc in absurd (omega arith))
 
 -- what a reading that goes as far as it can owes
@@ -102,7 +102,7 @@ unfolding parse seq
 parse-seq P k (done a) t l = refl
 parse-seq P k (node ok f) [] l = refl
 parse-seq P k (node ok f) (b ∷ t) l =
-    by-test (ok b) (λ e. rw e (parse-seq P k (f b) t (l .1 b e))) (λ e. rw e)
+    cases (ok b) (λ e. rw e (parse-seq P k (f b) t (l .1 b e))) (λ e. rw e)
 parse-seq P k (more a ok f) t l = absurd (l .0)
 
 -- byte by byte, at a place of a text
@@ -124,7 +124,7 @@ pub parse-lit-then : {A B : Type 0} (x : A) (f : Pattern B) (w t : List ℕ) →
 unfolding parse lit
 parse-lit-then x f [] t = refl
 parse-lit-then x f (c ∷ w) [] = refl
-parse-lit-then x f (c ∷ w) (b ∷ t) = by-test (eqb c b) (λ e. rw e (parse-lit-then x f w t)) (λ e. rw e)
+parse-lit-then x f (c ∷ w) (b ∷ t) = cases (eqb c b) (λ e. rw e (parse-lit-then x f w t)) (λ e. rw e)
 
 -- fixed bytes, byte by byte: j of them are read, up to i
 module _ {A : Type 0} (f : Pattern A) (w text : List ℕ) (j i : ℕ) where
