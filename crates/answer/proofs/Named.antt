@@ -1,4 +1,4 @@
--- The four numbers name one answer: a table from the verdict gives the answer back.
+-- The six numbers name one answer: a table from the verdict gives the answer back.
 -- Assumes nothing.
 use mathlib.Core.Path.{_≡_, refl, sym, ap, _∙_}
 use mathlib.Core.Bool.{true}
@@ -28,16 +28,16 @@ use Rattle.answer.specs.declared.Answer.the-variants.{
   Edition,
 }
 
-abbrev answerIn : ℕ → ℕ → ℕ → ℕ → Answer
-answerIn verdict part place rule =
+abbrev answerIn : ℕ → ℕ → ℕ → ℕ → ℕ → ℕ → Answer
+answerIn verdict part place rule expected found =
     getD
     (Accepted
     ∷ Size part place
     ∷ Word part place
     ∷ Instruction place
     ∷ Start
-    ∷ Exec place rule
-    ∷ Extension place rule
+    ∷ Exec place rule expected found
+    ∷ Extension place rule expected found
     ∷ Bus part place
     ∷ Label place
     ∷ Stuck place rule
@@ -51,7 +51,7 @@ answerIn verdict part place rule =
     verdict Accepted
 
 abbrev named : Numbers → Answer
-named n = answerIn (n .verdict) (n .part) (n .place) (n .rule)
+named n = answerIn (n .verdict) (n .part) (n .place) (n .rule) (n .expected) (n .found)
 
 named-back : (a : Answer) → named (numbersOf a) ≡ a
 named-back Accepted = refl
@@ -59,8 +59,8 @@ named-back (Size part place) = refl
 named-back (Word part place) = refl
 named-back (Instruction place) = refl
 named-back Start = refl
-named-back (Exec row rule) = refl
-named-back (Extension row rule) = refl
+named-back (Exec row rule expected found) = refl
+named-back (Extension row rule expected found) = refl
 named-back (Bus part row) = refl
 named-back (Label place) = refl
 named-back (Stuck row rule) = refl

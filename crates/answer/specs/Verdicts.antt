@@ -1,4 +1,5 @@
--- Document 01, "Verdicts": an answer is four numbers, verdict, part, place and rule; unnamed ones are 0.
+-- Document 01, "Verdicts", and document 02, M-104: an answer is six numbers, verdict, part, place, rule, expected and
+-- found; unnamed ones are 0.
 -- This is the one place that gives the paper's numbers.
 -- Declared in src/: Numbers, Answer (here).
 use Prim.Native.Nat.{ℕ}
@@ -25,8 +26,12 @@ use Rattle.answer.specs.declared.Answer.the-variants.{
   Edition,
 }
 
+abbrev pub six : ℕ → ℕ → ℕ → ℕ → ℕ → ℕ → Numbers
+six verdict part place rule expected found =
+    record { verdict = verdict; part = part; place = place; rule = rule; expected = expected; found = found }
+
 abbrev four : ℕ → ℕ → ℕ → ℕ → Numbers
-four verdict part place rule = record { verdict = verdict; part = part; place = place; rule = rule }
+four verdict part place rule = six verdict part place rule 0 0
 
 abbrev pub numbersOf : Answer → Numbers
 numbersOf Accepted = four 0 0 0 0
@@ -34,8 +39,8 @@ numbersOf (Size part place) = four 1 part place 0
 numbersOf (Word part place) = four 2 part place 0
 numbersOf (Instruction place) = four 3 1 place 0
 numbersOf Start = four 4 0 0 0
-numbersOf (Exec row rule) = four 5 3 row rule
-numbersOf (Extension row rule) = four 6 4 row rule
+numbersOf (Exec row rule expected found) = six 5 3 row rule expected found
+numbersOf (Extension row rule expected found) = six 6 4 row rule expected found
 numbersOf (Bus part row) = four 7 part row 0
 numbersOf (Label place) = four 8 0 place 0
 numbersOf (Stuck row rule) = four 9 0 row rule

@@ -1,6 +1,6 @@
-// The answers of document 01, "Verdicts", and of document 02's requests: an enum, and its four numbers.
+// The answers of document 01, "Verdicts", and of document 02's requests: an enum, and its six numbers.
 ghost use mathlib.Core.Path.{_≡_};
-ghost use Rattle.answer.specs.Verdicts.{numbersOf, accepted};
+ghost use Rattle.answer.specs.Verdicts.{six, numbersOf, accepted};
 
 // A case for each verdict, in the paper's order, with what the paper names in it.
 pub enum Answer {
@@ -9,8 +9,18 @@ pub enum Answer {
     Word { part: u32, place: u32 },
     Instruction { place: u32 },
     Start,
-    Exec { row: u32, rule: u32 },
-    Extension { row: u32, rule: u32 },
+    Exec {
+        row: u32,
+        rule: u32,
+        expected: u32,
+        found: u32,
+    },
+    Extension {
+        row: u32,
+        rule: u32,
+        expected: u32,
+        found: u32,
+    },
     Bus { part: u32, row: u32 },
     Label { place: u32 },
     Stuck { row: u32, rule: u32 },
@@ -28,21 +38,32 @@ pub struct Numbers {
     pub part: u32,
     pub place: u32,
     pub rule: u32,
+    pub expected: u32,
+    pub found: u32,
 }
 
-fn four(verdict: u32, part: u32, place: u32, rule: u32) -> Numbers
-    ensures { λ r. ⌜ r ≡ record { verdict = verdict; part = part; place = place; rule = rule } ⌝ }
+fn six(verdict: u32, part: u32, place: u32, rule: u32, expected: u32, found: u32) -> Numbers
+    ensures { λ r. ⌜ r ≡ six verdict part place rule expected found ⌝ }
 {
     Numbers {
         verdict,
         part,
         place,
         rule,
+        expected,
+        found,
     }
 }
 
-// The four numbers of an answer.
-pub fn four_numbers(a: Answer) -> Numbers
+// Of most verdicts nothing is expected and nothing found.
+fn four(verdict: u32, part: u32, place: u32, rule: u32) -> Numbers
+    ensures { λ r. ⌜ r ≡ six verdict part place rule 0 0 ⌝ }
+{
+    six(verdict, part, place, rule, 0, 0)
+}
+
+// The six numbers of an answer.
+pub fn six_numbers(a: Answer) -> Numbers
     ensures { λ r. ⌜ r ≡ numbersOf a ⌝ }
 {
     match a {
@@ -51,8 +72,18 @@ pub fn four_numbers(a: Answer) -> Numbers
         Answer::Word { part, place } => four(2, part, place, 0),
         Answer::Instruction { place } => four(3, 1, place, 0),
         Answer::Start => four(4, 0, 0, 0),
-        Answer::Exec { row, rule } => four(5, 3, row, rule),
-        Answer::Extension { row, rule } => four(6, 4, row, rule),
+        Answer::Exec {
+            row,
+            rule,
+            expected,
+            found,
+        } => six(5, 3, row, rule, expected, found),
+        Answer::Extension {
+            row,
+            rule,
+            expected,
+            found,
+        } => six(6, 4, row, rule, expected, found),
         Answer::Bus { part, row } => four(7, part, row, 0),
         Answer::Label { place } => four(8, 0, place, 0),
         Answer::Stuck { row, rule } => four(9, 0, row, rule),
@@ -68,6 +99,6 @@ pub fn four_numbers(a: Answer) -> Numbers
 pub fn accepted(a: Answer) -> bool
     ensures { λ r. ⌜ r ≡ accepted a ⌝ }
 {
-    let numbers = four_numbers(a);
+    let numbers = six_numbers(a);
     numbers.verdict == 0
 }

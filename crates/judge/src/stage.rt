@@ -5,18 +5,20 @@ use answer::Answer;
 use inputs::first_word;
 use inputs::first_word_unless;
 use inputs::program_walk;
+use judge_exec::exec_found;
+use judge_ext::ext_found;
 use judge_walks::exec_walk;
 use judge_walks::ext_walk;
 use rows::exec_inside;
 ghost use mathlib.Core.Path.{_≡_};
 ghost use mathlib.Core.Bool.{_&&_};
 ghost use mathlib.Core.List.{[]};
-ghost use Prim.Native.Nat.{_≤_, _<_, _^_};
+ghost use Prim.Native.Nat.{_/_, _≤_, _<_, _^_};
 ghost use lib.Dec.{eqb};
 ghost use lib.ListN.{length};
 ghost use Rattle.rows.specs.Rows.{execAt};
-ghost use Rattle.rules.specs.Sizes.{given};
-ghost use Rattle.judge_spec.specs.Judged.{words, firstMalformed};
+ghost use Rattle.rules.specs.Sizes.{given, tables};
+ghost use Rattle.judge_spec.specs.Judged.{words, firstMalformed, execRefusal, extRefusal};
 ghost use Rattle.inputs.specs.Parts.{Fitting};
 ghost use Rattle.judge.specs.Stages.{fromWords, fromInstructions};
 
@@ -37,6 +39,34 @@ fn starts(exec: &[u8], pc: u64, fp: u64) -> bool
 {
     let x = exec_inside(exec, 0);
     (x.pc as u64 == pc) & (x.fp as u64 == fp)
+}
+
+// 5 EXEC of a row and its rule.
+fn exec_refused(memory: &[u8], exec: &[u8], r: usize, rule: u32) -> Answer
+    requires { ⌜ (r < length (now exec) / 32) × (r < 2 ^ 32) ⌝ }
+    ensures { λ a. ⌜ a ≡ execRefusal (given [] (now (memory .entry))) (tables (now (exec .entry)) []) r rule ⌝ }
+{
+    let stood = exec_found(memory, exec, r, rule);
+    Answer::Exec {
+        row: r as u32,
+        rule,
+        expected: stood.expected,
+        found: stood.found,
+    }
+}
+
+// 6 EXTENSION of a row and its rule.
+fn ext_refused(memory: &[u8], ext: &[u8], k: usize, rule: u32) -> Answer
+    requires { ⌜ (k < length (now ext) / 120) × (k < 2 ^ 32) ⌝ }
+    ensures { λ a. ⌜ a ≡ extRefusal (given [] (now (memory .entry))) (tables [] (now (ext .entry))) k rule ⌝ }
+{
+    let stood = ext_found(memory, ext, k, rule);
+    Answer::Extension {
+        row: k as u32,
+        rule,
+        expected: stood.expected,
+        found: stood.found,
+    }
 }
 
 // 2 WORD of both tables, 3 INSTRUCTION, 4 START, 5 EXEC, 6 EXTENSION and 7 BUS.
@@ -73,17 +103,11 @@ fn tables_answer(
     }
     let r = ran.at;
     if r < exec.len() / 32 {
-        return Answer::Exec {
-            row: r as u32,
-            rule: ran.rule,
-        };
+        return exec_refused(memory, exec, r, ran.rule);
     }
     let k = extended.at;
     if k < ext.len() / 120 {
-        return Answer::Extension {
-            row: k as u32,
-            rule: extended.rule,
-        };
+        return ext_refused(memory, ext, k, extended.rule);
     }
     bus_answer(program, exec, ext, ran.pulled)
 }

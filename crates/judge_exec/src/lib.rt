@@ -1,9 +1,11 @@
-// The rules of one execution row: the first that fails.
+// The rules of one execution row: the first that fails, and what its lookup found.
 mod exec_quick;
 mod execution;
+mod finding;
 
 use exec_quick::exec_holds;
 use execution::exec_computed;
+pub use finding::exec_found;
 use form::instruction_inside;
 use judge_lookups::next_row;
 use rows::Exec;

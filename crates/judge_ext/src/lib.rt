@@ -1,11 +1,13 @@
-// The rules of one extension row: the first that fails.
+// The rules of one extension row: the first that fails, and what its lookup found.
 mod accumulation;
 mod ext_quick;
 mod extension;
+mod finding;
 
 use accumulation::accumulates;
 use ext_quick::others_hold;
 pub use extension::ext_rule;
+pub use finding::ext_found;
 use judge_lookups::next_row;
 use rows::ext_inside;
 ghost use mathlib.Core.Path.{_≡_};

@@ -1,7 +1,12 @@
-// What the rules of both tables ask alike: a cell of the memory, a gate times what must be 0, and the row paired with
-// one.
+// What the rules of both tables ask alike: a cell of the memory and what was found there, a gate times what must be 0,
+// and the row paired with one.
+mod finding;
 mod lookup;
 
+pub use finding::found_five;
+pub use finding::found_one;
+pub use finding::nothing;
+pub use lookup::Cell;
 pub use lookup::looks_up;
 pub use lookup::looks_up_five;
 ghost use mathlib.Core.Path.{_≡_};

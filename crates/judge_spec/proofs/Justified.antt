@@ -6,17 +6,19 @@ use mathlib.Core.Logic.{inl, inr}
 use Prim.Native.Nat.{ℕ, _<_}
 use native.Mathlib.Omega.{arith}
 use lib.Dec.{T}
-use Rattle.answer.specs.declared.Answer.the-variants.{Accepted, Instruction, Exec as ExecRefused, Extension, Bus}
+use Rattle.answer.specs.declared.Answer.the-variants.{Accepted, Instruction, Bus}
 use Rattle.rules.specs.Given.{Given, Tables}
+use Rattle.rules.specs.Lookups.{execLookups, extLookups}
 use Rattle.rules.specs.Bus.{pulled}
 use Rattle.rules.specs.Sizes.{Parts, givenOf, tablesOf}
 use Rattle.rules.specs.Satisfies.{Words, Satisfies}
-use Rattle.judge_spec.specs.Judged.{words, execFailing, extFailing, pushedAt, judgeOf}
+use Rattle.judge_spec.specs.Judged.{words, execRulesAt, execFailing, execRefusal, extRulesAt, extFailing, extRefusal, pushedAt, judgeOf}
 use Rattle.judge_spec.specs.Refusal.{part, partFits, PassedTwo, PassedThree, PassedFour, PassedFive, PassedSix, Equal, Pushes, Pulls, Says}
 use Rattle.judge_spec.proofs.PartNumbers.{every-from}
 use Rattle.judge_spec.proofs.PartTests.{no-words, words-cases, sizes-cases}
 use Rattle.judge_spec.proofs.Stages.{judgePulls, judgeBus, judgeExtension, judgeExecution, judgeStart, judgeProgram, judgeWords}
 use Rattle.judge_spec.proofs.BusLaws.{bus-equal}
+use Rattle.judge_spec.proofs.Standing.{stands, exec-covers, ext-covers}
 use Rattle.judge_spec.proofs.Cases.{tested}
 use Rattle.judge_spec.proofs.StageReads.{instructions-read, exec-read, ext-read, push-read, pull-read, start-cases}
 
@@ -67,16 +69,20 @@ module _ (q : Parts) where
   from-extension : PassedFive q → Says q (judgeExtension q)
   unfolding Says
   from-extension x =
-      tested (ext-read g t) (t .extHeight) (λ r. Extension r (extFailing g t r)) (judgeBus q) (Says q)
+      tested (ext-read g t) (t .extHeight) (λ r. extRefusal g t r (extFailing g t r)) (judgeBus q) (Says q)
       (λ all. from-bus (record { five = x; extension = all }))
-      (λ r h before bad. record { five = x; before = before; inside = h; bad = bad })
+      (λ r h before bad.
+      let stood = stands g (extRulesAt g t r) (extLookups (t .ext r)) (extFailing g t r) (ext-covers g (t .ext r) _) bad in
+      record { five = x; before = before; inside = h; bad = bad; stood = stood })
 
   from-execution : PassedFour q → Says q (judgeExecution q)
   unfolding Says
   from-execution x =
-      tested (exec-read g t) (t .height) (λ r. ExecRefused r (execFailing g t r)) (judgeExtension q) (Says q)
+      tested (exec-read g t) (t .height) (λ r. execRefusal g t r (execFailing g t r)) (judgeExtension q) (Says q)
       (λ all. from-extension (record { four = x; execution = all }))
-      (λ r h before bad. record { four = x; before = before; inside = h; bad = bad })
+      (λ r h before bad.
+      let stood = stands g (execRulesAt g t r) (execLookups (t .exec r)) (execFailing g t r) (exec-covers g (t .exec r) _ _) bad in
+      record { four = x; before = before; inside = h; bad = bad; stood = stood })
 
   from-start : PassedThree q → Says q (judgeStart q)
   unfolding Says

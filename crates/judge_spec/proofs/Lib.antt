@@ -1,5 +1,8 @@
 pub mod FirstLaws
 pub mod RuleLaws
+pub mod Standing
+pub mod FoundWords
+pub mod AsBefore
 pub mod Cases
 pub mod Lengths
 pub mod PartNumbers
@@ -11,3 +14,4 @@ pub mod Justified
 pub mod Narrow
 pub mod Only
 pub mod Exactly
+pub mod Showing

@@ -9,15 +9,17 @@ use lib.Dec.{T}
 use Rattle.answer.specs.declared.Answer.{Answer}
 use Rattle.answer.specs.declared.Answer.the-variants.{Accepted, Size, Word, Instruction, Start, Exec as ExecRefused, Extension, Bus, Label, Stuck, Room, Open, Itself, Buffer, Grid, Edition}
 use Rattle.rules.specs.Given.{Given, Tables, Rule}
+use Rattle.rules.specs.Lookups.{Lookup, execLookups, extLookups, foundUnder}
 use Rattle.rules.specs.Bus.{pulled}
 use Rattle.rules.specs.Sizes.{Parts, givenOf, tablesOf}
 use Rattle.rules.specs.Satisfies.{Words, Satisfies}
 use Rattle.judge_spec.specs.First.{failing}
-use Rattle.judge_spec.specs.Judged.{execRulesAt, execFailing, extRulesAt, extFailing, pushedAt, judgeOf}
-use Rattle.judge_spec.specs.Refusal.{FirstFailing, Equal, Pushes, part, partFits, BadSize, BadWord, BadExec, BadExtension, BadPush, BadPull, PassedTwo, PassedThree, PassedFour, PassedFive, PassedSix, Says}
+use Rattle.judge_spec.specs.Judged.{execRulesAt, execFailing, execRefusal, extRulesAt, extFailing, extRefusal, pushedAt, judgeOf}
+use Rattle.judge_spec.specs.Refusal.{FirstFailing, Stood, Equal, Pushes, part, partFits, BadSize, BadWord, BadExec, BadExtension, BadPush, BadPull, PassedTwo, PassedThree, PassedFour, PassedFive, PassedSix, Says}
 use Rattle.judge_spec.proofs.PartNumbers.{every}
 use Rattle.judge_spec.proofs.Stages.{judgePulls, judgeBus, judgeExtension, judgeExecution, judgeStart, judgeProgram, judgeWords}
 use Rattle.judge_spec.proofs.RuleLaws.{first-failing}
+use Rattle.judge_spec.proofs.Standing.{stood-is}
 use Rattle.judge_spec.proofs.Cases.{untouched, refusing}
 use Rattle.judge_spec.proofs.PartTests.{words-pass, word-at, sizes-pass, size-refused}
 use Rattle.judge_spec.proofs.StageReads.{instructions-read, exec-read, ext-read, push-read, pull-read, start-pass, start-fail}
@@ -49,10 +51,10 @@ module _ (q : Parts) where
   started x = formed (x .three) ∙ start-pass g t (q .pc) (q .fp) (judgeExecution q) (x .start-pc) (x .start-fp)
 
   executed : PassedFive q → judgeOf q ≡ judgeExtension q
-  executed x = started (x .four) ∙ untouched (exec-read g t) (t .height) (λ r. ExecRefused r (execFailing g t r)) (judgeExtension q) (x .execution)
+  executed x = started (x .four) ∙ untouched (exec-read g t) (t .height) (λ r. execRefusal g t r (execFailing g t r)) (judgeExtension q) (x .execution)
 
   extended : PassedSix q → judgeOf q ≡ judgeBus q
-  extended x = executed (x .five) ∙ untouched (ext-read g t) (t .extHeight) (λ r. Extension r (extFailing g t r)) (judgeBus q) (x .extension)
+  extended x = executed (x .five) ∙ untouched (ext-read g t) (t .extHeight) (λ r. extRefusal g t r (extFailing g t r)) (judgeBus q) (x .extension)
 
   pushed-all : PassedSix q → ((r : ℕ) → r < t .height → Pushes g t r → Equal g t (pushedAt g t r)) → judgeOf q ≡ judgePulls q
   pushed-all x all = extended x ∙ untouched (push-read g t) (t .height) (Bus 3) (judgePulls q) all
@@ -69,17 +71,23 @@ module _ (q : Parts) where
   named : (rules : List Rule) (n : ℕ) → FirstFailing rules n → FirstFailing rules (failing rules)
   named rules n f = subst (FirstFailing rules) (sym (first-failing rules n f)) f
 
-  exec-refused : (r n : ℕ) → BadExec q r n → judgeOf q ≡ ExecRefused r n
-  exec-refused r n x =
-      started (x .four)
-      ∙ refusing (exec-read g t) (t .height) (λ r. ExecRefused r (execFailing g t r)) (judgeExtension q) r (x .inside) (x .before) (named _ n (x .bad))
-      ∙ ap (ExecRefused r) (first-failing (execRulesAt g t r) n (x .bad))
+  -- and what is said of its lookup is what stood there
+  named-so : (refusal : ℕ → ℕ → ℕ → Answer) (rules : List Rule) (ls : List Lookup) (n : ℕ) {x y : ℕ}
+      → FirstFailing rules n → Stood g ls n x y
+      → (let f = foundUnder (g .size) (g .cell) ls (failing rules) in refusal (failing rules) (f .expected) (f .found) ≡ refusal n x y)
+  named-so refusal rules ls n f stood = rw (first-failing rules n f, stood-is g ls n stood)
 
-  ext-refused : (r n : ℕ) → BadExtension q r n → judgeOf q ≡ Extension r n
-  ext-refused r n x =
+  exec-refused : (r n expected found : ℕ) → BadExec q r n expected found → judgeOf q ≡ ExecRefused r n expected found
+  exec-refused r n expected found x =
+      started (x .four)
+      ∙ refusing (exec-read g t) (t .height) (λ r. execRefusal g t r (execFailing g t r)) (judgeExtension q) r (x .inside) (x .before) (named _ n (x .bad))
+      ∙ named-so (ExecRefused r) (execRulesAt g t r) (execLookups (t .exec r)) n (x .bad) (x .stood)
+
+  ext-refused : (r n expected found : ℕ) → BadExtension q r n expected found → judgeOf q ≡ Extension r n expected found
+  ext-refused r n expected found x =
       executed (x .five)
-      ∙ refusing (ext-read g t) (t .extHeight) (λ r. Extension r (extFailing g t r)) (judgeBus q) r (x .inside) (x .before) (named _ n (x .bad))
-      ∙ ap (Extension r) (first-failing (extRulesAt g t r) n (x .bad))
+      ∙ refusing (ext-read g t) (t .extHeight) (λ r. extRefusal g t r (extFailing g t r)) (judgeBus q) r (x .inside) (x .before) (named _ n (x .bad))
+      ∙ named-so (Extension r) (extRulesAt g t r) (extLookups (t .ext r)) n (x .bad) (x .stood)
 
   badly-sized : (n place : ℕ) → BadSize q n place → judgeOf q ≡ Size n 0
   unfolding judgeOf
@@ -123,8 +131,8 @@ module _ (q : Parts) where
   only (Word n k) x = sized (x .sizes) ∙ word-refused n k x
   only (Instruction i) x = read (x .two) ∙ refusing (instructions-read g t) (g .count) Instruction (judgeStart q) i (x .inside) (x .before) (x .bad)
   only Start x = formed (x .three) ∙ start-fail g t (q .pc) (q .fp) (judgeExecution q) (x .bad)
-  only (ExecRefused r n) x = exec-refused r n x
-  only (Extension r n) x = ext-refused r n x
+  only (ExecRefused r n expected found) x = exec-refused r n expected found x
+  only (Extension r n expected found) x = ext-refused r n expected found x
   only (Bus n r) (inl x) = push-refused r (x .1) ∙ ap (λ (m : ℕ). Bus m r) (sym (x .0))
   only (Bus n r) (inr x) = pull-refused r (x .1) ∙ ap (λ (m : ℕ). Bus m r) (sym (x .0))
   only (Label place) x = absurd x

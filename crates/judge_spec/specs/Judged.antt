@@ -1,4 +1,5 @@
--- Document 01, "Verdicts" 0 to 7: the first failure in document 01's order. Tests run in number order.
+-- Document 01, "Verdicts" 0 to 7: the first failure in document 01's order. Tests run in number order. Document 02,
+-- M-104: what a lookup that fails found.
 -- Declared in src/: Answer (answer).
 use Prim.Native.Nat.{ℕ, _/_}
 use mathlib.Core.Bool.{Bool, _&&_, _||_, cond}
@@ -12,6 +13,7 @@ use Rattle.answer.specs.declared.Answer.the-variants.{Accepted, Size, Word, Ins
 use Rattle.rules.specs.Given.{Given, Tables, Rule, next, zero?}
 use Rattle.rules.specs.Execution.{execRules}
 use Rattle.rules.specs.Extension.{extRules}
+use Rattle.rules.specs.Lookups.{execLookups, extLookups, foundUnder}
 use Rattle.rules.specs.Bus.{Tuple, pushed, pushes, pulled, pulls, instructionOf, balanced}
 use Rattle.rules.specs.Sizes.{Parts, programFits, memoryFits, execFits, extFits, wordOf, givenOf, tablesOf}
 use Rattle.judge_spec.specs.First.{first, failing}
@@ -60,8 +62,14 @@ execFailing g t r = failing (execRulesAt g t r)
 abbrev pub firstExec : Given → Tables → ℕ
 firstExec g t = first (λ r. zero? (execFailing g t r)) 0 (t .height)
 
+-- a row and its rule, with what the lookup under the rule's number found
+abbrev pub execRefusal : Given → Tables → ℕ → ℕ → Answer
+execRefusal g t r n =
+    let f = foundUnder (g .size) (g .cell) (execLookups (t .exec r)) n in
+    ExecRefused r n (f .expected) (f .found)
+
 abbrev pub execution : Given → Tables → Answer → Answer
-execution g t then = refused (firstExec g t) (t .height) (ExecRefused (firstExec g t) (execFailing g t (firstExec g t))) then
+execution g t then = refused (firstExec g t) (t .height) (execRefusal g t (firstExec g t) (execFailing g t (firstExec g t))) then
 
 abbrev pub extRulesAt : Given → Tables → ℕ → List Rule
 extRulesAt g t r = extRules g (t .ext r) (t .ext (next (t .extHeight) r))
@@ -72,8 +80,13 @@ extFailing g t r = failing (extRulesAt g t r)
 abbrev pub firstExt : Given → Tables → ℕ
 firstExt g t = first (λ r. zero? (extFailing g t r)) 0 (t .extHeight)
 
+abbrev pub extRefusal : Given → Tables → ℕ → ℕ → Answer
+extRefusal g t r n =
+    let f = foundUnder (g .size) (g .cell) (extLookups (t .ext r)) n in
+    Extension r n (f .expected) (f .found)
+
 abbrev pub extension : Given → Tables → Answer → Answer
-extension g t then = refused (firstExt g t) (t .extHeight) (Extension (firstExt g t) (extFailing g t (firstExt g t))) then
+extension g t then = refused (firstExt g t) (t .extHeight) (extRefusal g t (firstExt g t) (extFailing g t (firstExt g t))) then
 
 -- 7 BUS: the first pushing row whose tuple is unequal; else the first pulling row whose tuple is
 abbrev pub pushedAt : Given → Tables → ℕ → Tuple

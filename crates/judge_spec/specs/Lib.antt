@@ -1,3 +1,5 @@
 pub mod First
 pub mod Judged
 pub mod Refusal
+pub mod Before
+pub mod Shown

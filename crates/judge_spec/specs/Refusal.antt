@@ -1,11 +1,11 @@
--- Document 01, "Verdicts" 0 to 7: what each answer of the judge says of the parts. Tests run in number order, so each
--- says that those before it passed.
+-- Document 01, "Verdicts" 0 to 7, and document 02, M-104: what each answer of the judge says of the parts. Tests run
+-- in number order, so each says that those before it passed.
 -- Declared in src/: Answer (answer).
 use mathlib.Core.Path.{_≡_}
 use mathlib.Core.Logic.{_⊎_}
 use mathlib.Core.Bool.{Bool, true, false}
 use mathlib.Core.List.{List, [], _∷_, _++_}
-use Prim.Native.Nat.{ℕ, _/_, _≤_, _<_}
+use Prim.Native.Nat.{ℕ, _+_, _/_, _≤_, _<_}
 use lib.ListN.{length, getD}
 use lib.Dec.{T}
 use Rattle.word.specs.Word.{p, IsWord}
@@ -13,6 +13,7 @@ use Rattle.form.specs.Form.{wellFormed}
 use Rattle.answer.specs.declared.Answer.{Answer}
 use Rattle.answer.specs.declared.Answer.the-variants.{Accepted, Size, Word, Instruction, Start, Exec as ExecRefused, Extension, Bus, Label, Stuck, Room, Open, Itself, Buffer, Grid, Edition}
 use Rattle.rules.specs.Given.{Given, Tables, Rule, rule}
+use Rattle.rules.specs.Lookups.{Lookup, execLookups, extLookups}
 use Rattle.rules.specs.Bus.{Tuple, pushes, pulled, pulls, pushedTo, pulledTo, instructionOf}
 use Rattle.rules.specs.Sizes.{Parts, programFits, memoryFits, execFits, extFits, wordOf, givenOf, tablesOf}
 use Rattle.rules.specs.Satisfies.{All, Words, Satisfies}
@@ -24,6 +25,35 @@ pub record FirstFailing (rules : List Rule) (n : ℕ) : Type 0 where
   pub after : List Rule
   pub split : rules ≡ before ++ (rule n false ∷ after)
   pub hold : All before
+
+-- nothing is said of a lookup
+pub record Silent (expected found : ℕ) : Type 0 where
+  pub expected-is : expected ≡ 0
+  pub found-is : found ≡ 0
+
+-- what stood there
+module _ (g : Given) where
+  -- every cell is below M, and the one at a place is the first that differs: its word, and the column's
+  pub record Differs (addr : ℕ) (column : List ℕ) (expected found : ℕ) : Type 0 where
+    pub place : ℕ
+    pub inside : place < length column
+    pub in-range : addr + length column ≤ g .size
+    pub before : (j : ℕ) → j < place → getD column j 0 ≡ g .cell (addr + j)
+    pub expected-is : expected ≡ g .cell (addr + place)
+    pub found-is : found ≡ getD column place 0
+    pub differ : expected ≡ found → ⊥
+
+  -- one of the cells is not below M
+  pub record OutOfRange (addr : ℕ) (column : List ℕ) (expected found : ℕ) : Type 0 where
+    pub past : g .size < addr + length column
+    pub silent : Silent expected found
+
+  -- the lookup under a number, where there is one
+  abbrev pub Stood : List Lookup → ℕ → ℕ → ℕ → Type 0
+  Stood [] n expected found = Silent expected found
+  Stood (l ∷ ls) n expected found =
+      ((l .number ≡ n) × (Differs (l .addr) (l .column) expected found ⊎ OutOfRange (l .addr) (l .column) expected found))
+      ⊎ ((l .number ≡ n → ⊥) × Stood ls n expected found)
 
 module _ (g : Given) (t : Tables) where
   -- a tuple is pushed as often as it is pulled
@@ -96,11 +126,12 @@ module _ (q : Parts) where
     pub start-fp : t .exec 0 .fp ≡ q .fp
 
   -- 5 EXEC: first by row, then rule
-  pub record BadExec (r n : ℕ) : Type 0 where
+  pub record BadExec (r n expected found : ℕ) : Type 0 where
     pub four : PassedFour
     pub before : (s : ℕ) → s < r → All (execRulesAt g t s)
     pub inside : r < t .height
     pub bad : FirstFailing (execRulesAt g t r) n
+    pub stood : Stood g (execLookups (t .exec r)) n expected found
 
   -- tests 1 to 5 passed
   pub record PassedFive : Type 0 where
@@ -108,11 +139,12 @@ module _ (q : Parts) where
     pub execution : (r : ℕ) → r < t .height → All (execRulesAt g t r)
 
   -- 6 EXTENSION: first by row, then 18 to 21, then 1 to 17
-  pub record BadExtension (r n : ℕ) : Type 0 where
+  pub record BadExtension (r n expected found : ℕ) : Type 0 where
     pub five : PassedFive
     pub before : (s : ℕ) → s < r → All (extRulesAt g t s)
     pub inside : r < t .extHeight
     pub bad : FirstFailing (extRulesAt g t r) n
+    pub stood : Stood g (extLookups (t .ext r)) n expected found
 
   -- tests 1 to 6 passed
   pub record PassedSix : Type 0 where
@@ -143,8 +175,8 @@ module _ (q : Parts) where
   Says (Word n k) = BadWord n k
   Says (Instruction i) = BadInstruction i
   Says Start = BadStart
-  Says (ExecRefused r n) = BadExec r n
-  Says (Extension r n) = BadExtension r n
+  Says (ExecRefused r n expected found) = BadExec r n expected found
+  Says (Extension r n expected found) = BadExtension r n expected found
   Says (Bus n r) = ((n ≡ 3) × BadPush r) ⊎ ((n ≡ 4) × BadPull r)
   Says (Label place) = ⊥
   Says (Stuck r n) = ⊥

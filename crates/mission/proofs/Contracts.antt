@@ -7,6 +7,7 @@ use contract.Lifetimes.{Lfts}
 use borrow.Fn.Kinds.{Dens, resT, endedOf}
 use denote.Triple.Clauses.{AtExit}
 use denote.Ref.{now}
+use Rattle.reply.specs.Reply.{answerBytes}
 use Rattle.label.specs.Reading.{Reads}
 use Rattle.rules.specs.Sizes.{Parts}
 use Rattle.judge.proofs.judge.Kinds as judge
@@ -96,6 +97,6 @@ reader-call-promises κs a z e learnt = learnt
 pub exported-judge-tells : (κs : Lfts 5) (a : Dens κs judge-call.ps) (z : resT judge-call.r κs .Denot)
     (e : AtExit (endedOf 5 judge-call.ps judge-call.r) κs)
     → judge-call-reads.Learnt κs a z e
-    → length (now (a .1 .1 .1 .1 .1 .1 .0)) ≡ 16
+    → length (now (a .1 .1 .1 .1 .1 .1 .0)) ≡ answerBytes
     → DriverReads (callParts κs a) z (now (e .1 .1 .1 .1 .1 .1 .0))
 exported-judge-tells κs a z e learnt sized = driver-reads _ _ (z, now (e .1 .1 .1 .1 .1 .1 .0)) sized (judge-call-promises κs a z e learnt)

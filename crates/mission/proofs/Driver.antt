@@ -16,12 +16,12 @@ use Rattle.judge_spec.proofs.Justified.{justified}
 use Rattle.judge_spec.proofs.Only.{only}
 use Rattle.judge_spec.proofs.Exactly.{accepted-satisfies, satisfies-accepted}
 use Rattle.judge_spec.proofs.Narrow.{Narrow, answer-narrow}
-use Rattle.reply.specs.Reply.{returned, answerWords}
+use Rattle.reply.specs.Reply.{answerBytes, returned, answerWords}
 use Rattle.mission.specs.Promises.{JudgeCall}
 use Rattle.mission.specs.Driver.{numbersIn, DriverReads}
 use Rattle.answer.proofs.Named.{verdict-zero}
 
--- numbers below 2^32 read back from their 16 bytes
+-- numbers below 2^32 read back from their 24 bytes
 pub numbers-back : (a : Answer) → Narrow (numbersOf a) → numbersIn (bytesOfWords (answerWords a)) ≡ numbersOf a
 unfolding bytesOfWords
 numbers-back a n =
@@ -31,16 +31,18 @@ numbers-back a n =
       part = read-bytes (numbersOf a .part) (n .part) i;
       place = read-bytes (numbersOf a .place) (n .place) i;
       rule = read-bytes (numbersOf a .rule) (n .rule) i;
+      expected = read-bytes (numbersOf a .expected) (n .expected) i;
+      found = read-bytes (numbersOf a .found) (n .found) i;
     }
 
-module _ (q : Parts) (buffer : List ℕ) (x : ℕ × List ℕ) (sized : length buffer ≡ 16) (call : JudgeCall q buffer x) where
+module _ (q : Parts) (buffer : List ℕ) (x : ℕ × List ℕ) (sized : length buffer ≡ answerBytes) (call : JudgeCall q buffer x) where
   told : x .0 ≡ numbersOf (judgeOf q) .verdict
   unfolding returned
-  told = rw (eq-eqb (length buffer) 16 sized) at (call .0)
+  told = rw (eq-eqb (length buffer) answerBytes sized) at (call .0)
 
   written : x .1 ≡ bytesOfWords (answerWords (judgeOf q))
   unfolding putRow
-  written = rw (eq-eqb (length buffer) 16 sized) at (call .1)
+  written = rw (eq-eqb (length buffer) answerBytes sized) at (call .1)
 
   pub driver-reads : DriverReads q (x .0) (x .1)
   driver-reads =

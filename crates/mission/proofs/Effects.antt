@@ -22,7 +22,7 @@ use Rattle.label.specs.declared.Written.{Written}
 use Rattle.maker.specs.Bytes.{makeOf, sizesFit, programAfter, memoryAfter}
 use Rattle.rules.specs.Sizes.{Parts}
 use Rattle.judge_spec.specs.Judged.{judgeOf}
-use Rattle.reply.specs.Reply.{verdictOf}
+use Rattle.reply.specs.Reply.{answerBytes, verdictOf}
 use Rattle.uisnabar.specs.Calls.{bothFit}
 use Rattle.reply.proofs.Unfit.{buffer-told, unchanged}
 use Rattle.uisnabar.proofs.Buffers.{unfit-left, unfit-right}
@@ -57,7 +57,7 @@ pub reader-zeroes : (text : List ℕ) (r : Reading) → Reads text r → IsRefus
 reader-zeroes text r (inl a) h = absurd (omega (arith, ap (λ (x : Answer). numbersOf x .verdict) (a .answer)))
 reader-zeroes text r (inr n) h = n .recipe
 
-pub judge-call-answer : (q : Parts) (buffer : List ℕ) (x : ℕ × List ℕ) → JudgeCall q buffer x → (length buffer ≡ 16 → ⊥) → (x .0 ≡ 13) × (x .1 ≡ buffer)
+pub judge-call-answer : (q : Parts) (buffer : List ℕ) (x : ℕ × List ℕ) → JudgeCall q buffer x → (length buffer ≡ answerBytes → ⊥) → (x .0 ≡ 13) × (x .1 ≡ buffer)
 judge-call-answer q buffer x call other =
     (call .0 ∙ buffer-told buffer other (judgeOf q), call .1 ∙ unchanged buffer other (judgeOf q))
 
@@ -65,9 +65,9 @@ module _ (text answer recipe : List ℕ) (x : ℕ × List ℕ × List ℕ) (call
   unfit-call : bothFit answer recipe ≡ false → (x .0 ≡ 13) × (x .1 ≡ answer) × (x .2 ≡ recipe)
   unfit-call e = (rw e at (call .verdict), rw e at (call .answered), rw e at (call .written))
 
-  pub reader-call-answer : (length answer ≡ 16 → ⊥) ⊎ (length recipe ≡ 20 → ⊥) → (x .0 ≡ 13) × (x .1 ≡ answer) × (x .2 ≡ recipe)
-  reader-call-answer (inl other) = unfit-call (unfit-left answer 16 other _)
-  reader-call-answer (inr other) = unfit-call (unfit-right recipe 20 other (eqb (length answer) 16))
+  pub reader-call-answer : (length answer ≡ answerBytes → ⊥) ⊎ (length recipe ≡ 20 → ⊥) → (x .0 ≡ 13) × (x .1 ≡ answer) × (x .2 ≡ recipe)
+  reader-call-answer (inl other) = unfit-call (unfit-left answer answerBytes other _)
+  reader-call-answer (inr other) = unfit-call (unfit-right recipe 20 other (eqb (length answer) answerBytes))
 
   pub reader-call-keeps : 1 ≤ x .0 → x .2 ≡ recipe
   reader-call-keeps h =

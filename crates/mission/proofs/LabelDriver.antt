@@ -20,8 +20,8 @@ use Rattle.label.specs.declared.Reading.{Reading}
 use Rattle.label.proofs.Label.{reads-label}
 use Rattle.label.proofs.Length.{place-most}
 use Rattle.label.proofs.Range.{version-high, m-high, n-high}
-use Rattle.judge_spec.proofs.Narrow.{Narrow}
-use Rattle.reply.specs.Reply.{answerWords}
+use Rattle.judge_spec.proofs.Narrow.{Narrow, narrow-four}
+use Rattle.reply.specs.Reply.{answerBytes, answerWords}
 use Rattle.uisnabar.specs.Calls.{bothFit, recipeWords}
 use Rattle.mission.specs.Promises.{ReaderCall}
 use Rattle.mission.specs.Driver.{numbersIn, recipeIn, DriverReadsLabel}
@@ -29,9 +29,9 @@ use Rattle.answer.proofs.Named.{verdict-zero}
 use Rattle.mission.proofs.Driver.{numbers-back}
 
 reading-narrow : (text : List ℕ) (r : Reading) → Reads text r → Narrow (numbersOf (r .answer))
-reading-narrow text r (inl a) = rw (a .answer) (record { verdict = omega arith; part = omega arith; place = omega arith; rule = omega arith })
+reading-narrow text r (inl a) = rw (a .answer) (narrow-four 0 0 0 0 (omega arith) (omega arith) (omega arith) (omega arith))
 reading-narrow text r (inr n) =
-    rw (n .answer) (record { verdict = omega arith; part = omega arith; place = omega (arith, place-most (n .nearest)); rule = omega arith })
+    rw (n .answer) (narrow-four 8 0 _ 0 (omega arith) (omega arith) (omega (arith, place-most (n .nearest))) (omega arith))
 
 -- a recipe in range reads back from its 20 bytes
 recipe-back : (r : Recipe) → InRange r → recipeIn (bytesOfWords (recipeWords r)) ≡ r
@@ -56,17 +56,17 @@ pub recipe-laid-out : bytesOfWords (recipeWords (record { version = 2; seed = 0x
 unfolding bytesOfWords
 recipe-laid-out = refl
 
-module _ (text answer recipe : List ℕ) (x : ℕ × List ℕ × List ℕ) (answer-sized : length answer ≡ 16) (recipe-sized : length recipe ≡ 20)
+module _ (text answer recipe : List ℕ) (x : ℕ × List ℕ × List ℕ) (answer-sized : length answer ≡ answerBytes) (recipe-sized : length recipe ≡ 20)
     (call : ReaderCall text answer recipe x) where
   fit : bothFit answer recipe ≡ true
-  fit = rw (eq-eqb (length answer) 16 answer-sized, eq-eqb (length recipe) 20 recipe-sized)
+  fit = rw (eq-eqb (length answer) answerBytes answer-sized, eq-eqb (length recipe) 20 recipe-sized)
 
   told : x .0 ≡ numbersOf (call .reading .answer) .verdict
   told = rw fit at (call .verdict)
 
   answered : x .1 ≡ bytesOfWords (answerWords (call .reading .answer))
   unfolding putRow
-  answered = rw (eq-eqb (length answer) 16 answer-sized) at (rw fit at (call .answered))
+  answered = rw (eq-eqb (length answer) answerBytes answer-sized) at (rw fit at (call .answered))
 
   is-accepted : x .0 ≡ 0 → call .reading .answer ≡ Accepted
   is-accepted e = verdict-zero (call .reading .answer) (sym told ∙ e)

@@ -9,6 +9,8 @@ use Rattle.tabler.proofs.Determined.{table-determined}
 use Rattle.uisnabar.proofs.Determined.{call-determined}
 use Rattle.program_build.proofs.Output.{output-determined}
 use Rattle.judge_spec.proofs.Exactly.{says-exactly, accepted-satisfies, satisfies-accepted, answer-determined}
+use Rattle.judge_spec.proofs.AsBefore.{as-before}
+use Rattle.judge_spec.proofs.Showing.{exec-shown, ext-shown}
 use Rattle.run.proofs.Sound.{sound}
 use Rattle.run.proofs.Agree.{one-run, agree}
 use Rattle.run.proofs.Converse.{converse}
@@ -55,6 +57,9 @@ demand-two =
     record {
       accepted-exactly = λ q. (accepted-satisfies q, satisfies-accepted q);
       answers-exactly = says-exactly;
+      four-as-before = as-before;
+      exec-shown = exec-shown;
+      extension-shown = ext-shown;
       driver-reads = driver-reads;
       driver-reads-label = driver-reads-label;
       label-written =

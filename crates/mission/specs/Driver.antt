@@ -1,5 +1,5 @@
 -- The mission's second demand at the C boundary; document 01, "Draws, recipe, label", its last paragraph: what a driver
--- reads after a call of `uisnabar_judge` or `uisnabar_label` whose answer has 16 bytes and whose recipe has 20.
+-- reads after a call of `uisnabar_judge` or `uisnabar_label` whose answer has 24 bytes and whose recipe has 20.
 -- Declared in src/: Numbers, Answer (answer); Recipe, Reading (label).
 use mathlib.Core.Path.{_≡_}
 use mathlib.Core.Logic.{_↔_}
@@ -16,9 +16,17 @@ use Rattle.label.specs.Reading.{Valid, Reads}
 use Rattle.label.specs.declared.Recipe.{Recipe}
 use Rattle.label.specs.declared.Reading.{Reading}
 
--- the four numbers in 16 bytes: verdict, part, place, rule, each 4 bytes, little-endian
+-- the six numbers in 24 bytes: verdict, part, place, rule, expected, found, each 4 bytes, little-endian
 abbrev pub numbersIn : List ℕ → Numbers
-numbersIn buffer = record { verdict = wordAt buffer 0; part = wordAt buffer 4; place = wordAt buffer 8; rule = wordAt buffer 12 }
+numbersIn buffer =
+    record {
+      verdict = wordAt buffer 0;
+      part = wordAt buffer 4;
+      place = wordAt buffer 8;
+      rule = wordAt buffer 12;
+      expected = wordAt buffer 16;
+      found = wordAt buffer 20;
+    }
 
 -- the number returned and the buffer after the call tell one answer, the one that holds of the four parts and the
 -- start; and the number is 0 exactly where the tables satisfy the constraints of draft 0.6.0

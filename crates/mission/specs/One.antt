@@ -11,6 +11,7 @@ use mathlib.Core.Logic.{_⊎_}
 use mathlib.Core.List.{List}
 use Prim.Native.Nat.{ℕ, _≤_}
 use lib.ListN.{length, replicate}
+use Rattle.reply.specs.Reply.{answerBytes}
 use Rattle.answer.specs.Determined.{Determined}
 use Rattle.answer.specs.Verdicts.{numbersOf}
 use Rattle.answer.specs.declared.Answer.{Answer}
@@ -65,12 +66,12 @@ pub record DemandOne : Type 0 where
       → (written r (length buffer) .length ≡ 0) × (buffered r buffer ≡ buffer)
   -- a refused label reads as version, seed, m and n all 0
   pub reader-zeroes : (text : List ℕ) (r : Reading) → Reads text r → IsRefusal (r .answer) → r .recipe ≡ noRecipe
-  -- ANSWER, 13, for an answer buffer of another length than 16, and for either buffer of the label's call: nothing is
+  -- ANSWER, 13, for an answer buffer of another length than 24, and for either buffer of the label's call: nothing is
   -- written
-  pub judge-call-answer : (q : Parts) (buffer : List ℕ) (x : ℕ × List ℕ) → JudgeCall q buffer x → (length buffer ≡ 16 → ⊥)
+  pub judge-call-answer : (q : Parts) (buffer : List ℕ) (x : ℕ × List ℕ) → JudgeCall q buffer x → (length buffer ≡ answerBytes → ⊥)
       → (x .0 ≡ 13) × (x .1 ≡ buffer)
   pub reader-call-answer : (text answer recipe : List ℕ) (x : ℕ × List ℕ × List ℕ) → ReaderCall text answer recipe x
-      → (length answer ≡ 16 → ⊥) ⊎ (length recipe ≡ recipeBytes → ⊥)
+      → (length answer ≡ answerBytes → ⊥) ⊎ (length recipe ≡ recipeBytes → ⊥)
       → (x .0 ≡ 13) × (x .1 ≡ answer) × (x .2 ≡ recipe)
   -- the label's call writes the recipe only on acceptance
   pub reader-call-keeps : (text answer recipe : List ℕ) (x : ℕ × List ℕ × List ℕ) → ReaderCall text answer recipe x → 1 ≤ x .0 → x .2 ≡ recipe

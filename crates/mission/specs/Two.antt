@@ -11,8 +11,9 @@ use mathlib.Core.Logic.{_↔_}
 use mathlib.Core.List.{List, _++_}
 use Prim.Native.Nat.{ℕ, _≤_}
 use lib.ListN.{length, drop}
+use Rattle.reply.specs.Reply.{answerBytes}
 use Rattle.answer.specs.declared.Answer.{Answer}
-use Rattle.answer.specs.declared.Answer.the-variants.{Accepted}
+use Rattle.answer.specs.declared.Answer.the-variants.{Accepted, Exec, Extension, Label}
 use Rattle.label.specs.Label.{InRange, labelOf}
 use Rattle.text_patterns.specs.Place.{Place}
 use Rattle.label.specs.Reading.{Valid, Reads}
@@ -20,11 +21,13 @@ use Rattle.uisnabar.specs.Calls.{recipeBytes}
 use Rattle.label.specs.Writing.{written, buffered}
 use Rattle.label.specs.declared.Recipe.{Recipe}
 use Rattle.label.specs.declared.Reading.{Reading}
-use Rattle.answer.specs.declared.Answer.the-variants.{Label}
-use Rattle.rules.specs.Sizes.{Parts}
+use Rattle.rules.specs.Sizes.{Parts, givenOf, tablesOf}
+use Rattle.rules.specs.Lookups.{execLookups, extLookups}
 use Rattle.rules.specs.Satisfies.{Satisfies}
 use Rattle.judge_spec.specs.Judged.{judgeOf}
-use Rattle.judge_spec.specs.Refusal.{Says}
+use Rattle.judge_spec.specs.Refusal.{Silent, Says}
+use Rattle.judge_spec.specs.Before.{judgeBefore, firstFour}
+use Rattle.judge_spec.specs.Shown.{Shows}
 use Rattle.mission.specs.Promises.{JudgeCall, ReaderCall}
 use Rattle.mission.specs.Driver.{DriverReads, DriverReadsLabel}
 
@@ -33,10 +36,18 @@ pub record DemandTwo : Type 0 where
   pub accepted-exactly : (q : Parts) → (judgeOf q ≡ Accepted) ↔ Satisfies q
   -- the judge gives an answer exactly where what the answer says is so: a refusal names the first failing rule
   pub answers-exactly : (q : Parts) (a : Answer) → (judgeOf q ≡ a) ↔ Says q a
+  -- its first four numbers are those of the definition that knew no others (document 02, M-104)
+  pub four-as-before : (q : Parts) → firstFour (judgeOf q) ≡ firstFour (judgeBefore q)
+  -- and where expected or found is not 0 a lookup of the row shows them: they differ, expected is the memory's word at
+  -- the column's address, and found the table's
+  pub exec-shown : (q : Parts) (r n expected found : ℕ) → judgeOf q ≡ Exec r n expected found → (Silent expected found → ⊥)
+      → Shows (givenOf q) (execLookups (tablesOf q .exec r)) n expected found
+  pub extension-shown : (q : Parts) (r n expected found : ℕ) → judgeOf q ≡ Extension r n expected found → (Silent expected found → ⊥)
+      → Shows (givenOf q) (extLookups (tablesOf q .ext r)) n expected found
   -- and so for a driver in C, from what `uisnabar_judge` promises
-  pub driver-reads : (q : Parts) (buffer : List ℕ) (x : ℕ × List ℕ) → length buffer ≡ 16 → JudgeCall q buffer x → DriverReads q (x .0) (x .1)
+  pub driver-reads : (q : Parts) (buffer : List ℕ) (x : ℕ × List ℕ) → length buffer ≡ answerBytes → JudgeCall q buffer x → DriverReads q (x .0) (x .1)
   -- a driver reads a label as the reader does, from what `uisnabar_label` promises
-  pub driver-reads-label : (text answer recipe : List ℕ) (x : ℕ × List ℕ × List ℕ) → length answer ≡ 16 → length recipe ≡ recipeBytes
+  pub driver-reads-label : (text answer recipe : List ℕ) (x : ℕ × List ℕ × List ℕ) → length answer ≡ answerBytes → length recipe ≡ recipeBytes
       → ReaderCall text answer recipe x
       → DriverReadsLabel text (x .0) (x .1) (x .2)
   -- a recipe is written as one label, and the bytes after it keep what they held

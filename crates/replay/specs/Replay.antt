@@ -1,4 +1,4 @@
--- Document 01, "Draws, recipe, label": what the replay program prints for a text.
+-- Document 01, "Draws, recipe, label", and document 02, M-104: what the replay program prints for a text.
 -- Declared in src/: Numbers, Answer (answer); Reading, Recipe (label).
 use Prim.Native.Nat.{ℕ}
 use mathlib.Core.Bool.{cond}
@@ -16,7 +16,7 @@ use Rattle.judge_spec.specs.Judged.{judgeOf}
 use Rattle.program_build.specs.Recipes.{tabledOf, execTabled, extTabled}
 use Rattle.lines.specs.Line.{lineOf}
 
--- verdict=, part=, place= and rule=
+-- verdict=, part=, place=, rule=, expected= and found=
 abbrev pub verdictText : List ℕ
 verdictText = 118 ∷ 101 ∷ 114 ∷ 100 ∷ 105 ∷ 99 ∷ 116 ∷ 61 ∷ []
 
@@ -29,13 +29,22 @@ placeText = 112 ∷ 108 ∷ 97 ∷ 99 ∷ 101 ∷ 61 ∷ []
 abbrev pub ruleText : List ℕ
 ruleText = 114 ∷ 117 ∷ 108 ∷ 101 ∷ 61 ∷ []
 
--- the four lines of an answer
+abbrev pub expectedText : List ℕ
+expectedText = 101 ∷ 120 ∷ 112 ∷ 101 ∷ 99 ∷ 116 ∷ 101 ∷ 100 ∷ 61 ∷ []
+
+abbrev pub foundText : List ℕ
+foundText = 102 ∷ 111 ∷ 117 ∷ 110 ∷ 100 ∷ 61 ∷ []
+
+-- the six lines of an answer: four that name it, and two for what stood there
 abbrev pub fourLines : Numbers → List ℕ
 fourLines n =
     lineOf verdictText (n .verdict) ++ lineOf partText (n .part) ++ lineOf placeText (n .place) ++ lineOf ruleText (n .rule)
 
+abbrev pub twoLines : Numbers → List ℕ
+twoLines n = lineOf expectedText (n .expected) ++ lineOf foundText (n .found)
+
 unfoldable pub linesOf : Answer → List ℕ
-linesOf a = fourLines (numbersOf a)
+linesOf a = fourLines (numbersOf a) ++ twoLines (numbersOf a)
 
 -- the judge's answer to the recipe's own tables
 unfoldable pub judgedOf : Recipe → Answer
@@ -50,7 +59,7 @@ ownOf r = cond (accepted (tabledOf r)) (cond (accepted (judgedOf r)) Accepted It
 unfoldable pub replayOf : Recipe → Answer
 replayOf r = cond (eqb (r .m) 10) (ownOf r) (Size 2 0)
 
--- a bad label's four lines alone; else the label and then the four lines
+-- a bad label's six lines alone; else the label and then the six lines
 unfoldable pub replayOutput : Reading → List ℕ
 replayOutput r =
     cond (accepted (r .answer)) (labelOf (r .recipe) ++ linesOf (replayOf (r .recipe))) (linesOf (r .answer))

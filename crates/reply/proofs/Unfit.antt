@@ -8,19 +8,19 @@ use borrow.Author.Tests.{ne-eqb}
 use Rattle.rows.proofs.Writing.{row-left}
 use Rattle.answer.specs.declared.Answer.{Answer}
 use Rattle.answer.specs.declared.Answer.the-variants.{Buffer}
-use Rattle.reply.specs.Reply.{verdictOf, answerWords, returned, replied}
+use Rattle.reply.specs.Reply.{verdictOf, answerBytes, answerWords, returned, replied}
 
-module _ (buffer : List ℕ) (other : length buffer ≡ 16 → ⊥) where
+module _ (buffer : List ℕ) (other : length buffer ≡ answerBytes → ⊥) where
   pub same-returned : (a b : Answer) → returned a buffer ≡ returned b buffer
   unfolding returned
-  same-returned a b = rw (ne-eqb (length buffer) 16 other)
+  same-returned a b = rw (ne-eqb (length buffer) answerBytes other)
 
   pub same-replied : (a b : Answer) → replied a buffer ≡ replied b buffer
-  same-replied a b = sym (row-left buffer 16 (answerWords a) other) ∙ row-left buffer 16 (answerWords b) other
+  same-replied a b = sym (row-left buffer answerBytes (answerWords a) other) ∙ row-left buffer answerBytes (answerWords b) other
 
   pub buffer-told : (a : Answer) → returned a buffer ≡ verdictOf Buffer
   unfolding returned
-  buffer-told a = rw (ne-eqb (length buffer) 16 other)
+  buffer-told a = rw (ne-eqb (length buffer) answerBytes other)
 
   pub unchanged : (a : Answer) → replied a buffer ≡ buffer
-  unchanged a = sym (row-left buffer 16 (answerWords a) other)
+  unchanged a = sym (row-left buffer answerBytes (answerWords a) other)

@@ -1,6 +1,6 @@
--- Document 01, "Draws, recipe, label", its last paragraph: the four numbers written as 16 bytes, little-endian, and the
--- verdict returned.
--- Declared in src/: Answer (answer).
+-- Document 01, "Draws, recipe, label", its last paragraph, and document 02, M-104: the six numbers written as 24 bytes,
+-- little-endian, and the verdict returned.
+-- Declared in src/: Numbers, Answer (answer).
 use Prim.Native.Nat.{ℕ}
 use mathlib.Core.Bool.{cond}
 use mathlib.Core.List.{List, [], _∷_}
@@ -8,19 +8,27 @@ use lib.Dec.{eqb}
 use lib.ListN.{length}
 use Rattle.rows.specs.Rows.{putRow}
 use Rattle.answer.specs.Verdicts.{numbersOf}
+use Rattle.answer.specs.declared.Numbers.{Numbers}
 use Rattle.answer.specs.declared.Answer.{Answer}
 use Rattle.answer.specs.declared.Answer.the-variants.{Buffer}
 
 abbrev pub verdictOf : Answer → ℕ
 verdictOf a = numbersOf a .verdict
 
--- verdict, part, place, rule
-abbrev pub answerWords : Answer → List ℕ
-answerWords a = numbersOf a .verdict ∷ numbersOf a .part ∷ numbersOf a .place ∷ numbersOf a .rule ∷ []
+-- the length of an answer's buffer
+abbrev pub answerBytes : ℕ
+answerBytes = 24
 
--- ANSWER first: a buffer of another length than 16 is told by the verdict, and keeps its bytes
+-- in the order in which they are written
+abbrev pub inOrder : Numbers → List ℕ
+inOrder n = n .verdict ∷ n .part ∷ n .place ∷ n .rule ∷ n .expected ∷ n .found ∷ []
+
+abbrev pub answerWords : Answer → List ℕ
+answerWords a = inOrder (numbersOf a)
+
+-- ANSWER first: a buffer of another length is told by the verdict, and keeps its bytes
 unfoldable pub returned : Answer → List ℕ → ℕ
-returned a buffer = cond (eqb (length buffer) 16) (verdictOf a) (verdictOf Buffer)
+returned a buffer = cond (eqb (length buffer) answerBytes) (verdictOf a) (verdictOf Buffer)
 
 abbrev pub replied : Answer → List ℕ → List ℕ
-replied a buffer = putRow buffer 16 (answerWords a)
+replied a buffer = putRow buffer answerBytes (answerWords a)

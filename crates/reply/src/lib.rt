@@ -1,33 +1,35 @@
-// An answer as a C call gives it: the verdict returned, the four numbers in the caller's 16 bytes.
+// An answer as a C call gives it: the verdict returned, the six numbers in the caller's 24 bytes.
 use answer::Answer;
-use answer::four_numbers;
+use answer::Numbers;
+use answer::six_numbers;
 use word::put_word;
 ghost use mathlib.Core.Path.{_≡_};
-ghost use mathlib.Core.List.{[], _∷_};
 ghost use lib.ListN.{length};
 ghost use Rattle.rows.specs.Rows.{putRow};
-ghost use Rattle.reply.specs.Reply.{returned, replied};
+ghost use Rattle.reply.specs.Reply.{answerBytes, inOrder, returned, replied};
 
-// Four words into 16 bytes.
-pub fn put_four(buffer: &mut [u8], a: u32, b: u32, c: u32, d: u32)
-    requires { ⌜ length (now buffer) ≡ 16 ⌝ }
-    ensures { λ _. ⌜ now (buffer .exit) ≡ putRow (now (buffer .entry)) 16 (a ∷ b ∷ c ∷ d ∷ []) ⌝ }
+// Six numbers into 24 bytes.
+fn put_numbers(buffer: &mut [u8], n: Numbers)
+    requires { ⌜ length (now buffer) ≡ answerBytes ⌝ }
+    ensures { λ _. ⌜ now (buffer .exit) ≡ putRow (now (buffer .entry)) answerBytes (inOrder n) ⌝ }
 {
-    put_word(buffer, 0, a);
-    put_word(buffer, 4, b);
-    put_word(buffer, 8, c);
-    put_word(buffer, 12, d);
+    put_word(buffer, 0, n.verdict);
+    put_word(buffer, 4, n.part);
+    put_word(buffer, 8, n.place);
+    put_word(buffer, 12, n.rule);
+    put_word(buffer, 16, n.expected);
+    put_word(buffer, 20, n.found);
 }
 
-// The verdict, or ANSWER's where the buffer is not 16 bytes; nothing is written then.
+// The verdict, or ANSWER's where the buffer is not 24 bytes; nothing is written then.
 pub fn reply(buffer: &mut [u8], a: Answer) -> u32
     ensures { λ r. ⌜ (r ≡ returned a (now (buffer .entry))) × (now (buffer .exit) ≡ replied a (now (buffer .entry))) ⌝ }
 {
-    if buffer.len() != 16 {
-        let other = four_numbers(Answer::Buffer);
+    if buffer.len() != 24 {
+        let other = six_numbers(Answer::Buffer);
         return other.verdict;
     }
-    let four = four_numbers(a);
-    put_four(buffer, four.verdict, four.part, four.place, four.rule);
-    four.verdict
+    let six = six_numbers(a);
+    put_numbers(buffer, six);
+    six.verdict
 }

@@ -107,8 +107,8 @@ module _ (i : Input) (exec ext : List ℕ) where
   kept (Word part place) old written h l = refl
   kept (Instruction place) old written h l = refl
   kept Start old written h l = refl
-  kept (Exec row rule) old written h l = refl
-  kept (Extension row rule) old written h l = refl
+  kept (Exec row rule expected found) old written h l = refl
+  kept (Extension row rule expected found) old written h l = refl
   kept (Bus part row) old written h l = refl
   kept (Label place) old written h l = refl
   kept (Stuck row rule) old written h l = absurd (omega arith)
@@ -126,8 +126,8 @@ module _ (i : Input) (exec ext : List ℕ) where
   zeroed (Word part place) old written h l = absurd (omega arith)
   zeroed (Instruction place) old written h l = absurd (omega arith)
   zeroed Start old written h l = absurd (omega arith)
-  zeroed (Exec row rule) old written h l = absurd (omega arith)
-  zeroed (Extension row rule) old written h l = absurd (omega arith)
+  zeroed (Exec row rule expected found) old written h l = absurd (omega arith)
+  zeroed (Extension row rule expected found) old written h l = absurd (omega arith)
   zeroed (Bus part row) old written h l = absurd (omega arith)
   zeroed (Label place) old written h l = absurd (omega arith)
   zeroed (Stuck row rule) old written h l = refl

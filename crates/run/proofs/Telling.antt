@@ -124,8 +124,8 @@ module _ (i : Input) (exec ext : List ℕ) where
       ∙ refusing (instructions-read (given (i .program) []) (tablesOf q)) (given (i .program) [] .count) Instruction (tablerStart i exec ext) k
       (x .inside) (x .before) (x .bad)
   tells-only Start x = formed (x .three) ∙ start-refused x
-  tells-only (Exec r n) x = absurd x
-  tells-only (Extension r n) x = absurd x
+  tells-only (Exec r n expected found) x = absurd x
+  tells-only (Extension r n expected found) x = absurd x
   tells-only (Bus n r) x = absurd x
   tells-only (Label place) x = absurd x
   tells-only (Stuck r reason) x =

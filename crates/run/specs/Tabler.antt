@@ -162,8 +162,8 @@ module _ (i : Input) (exec ext : List ℕ) where
   Tells (Word n k) = TablerWord n k
   Tells (Instruction k) = TablerInstruction k
   Tells Start = TablerStart
-  Tells (Exec r n) = ⊥
-  Tells (Extension r n) = ⊥
+  Tells (Exec r n expected found) = ⊥
+  Tells (Extension r n expected found) = ⊥
   Tells (Bus n r) = ⊥
   Tells (Label place) = ⊥
   Tells (Stuck r reason) = StuckAt r reason

@@ -1,7 +1,7 @@
 // A run to its end: the tables filled, or all zero.
 use crate::run::run;
 use answer::Answer;
-use answer::four_numbers;
+use answer::six_numbers;
 use word::clear;
 ghost use lib.ListN.{length};
 ghost use Rattle.inputs.specs.Parts.{Fitting};
@@ -22,7 +22,7 @@ pub(crate) fn finish(
     ensures { λ r. ⌜ Tabling (now (program .entry)) (now (memory .entry)) pc fp (now (exec .entry)) (now (ext .entry)) (runOf (now (program .entry)) (now (memory .entry)) pc fp (now (exec .entry)) (now (ext .entry))) (now (exec .exit)) (now (ext .exit)) r ⌝ }
 {
     let answer = run(program, memory, pc, fp, exec, ext);
-    let numbers = four_numbers(answer);
+    let numbers = six_numbers(answer);
     if numbers.verdict != 0 {
         clear(exec);
         clear(ext);

@@ -10,14 +10,16 @@ fn number(n: u64) {
 }
 
 fn show_answer(a: answer::Answer) {
-    let four = answer::four_numbers(a);
-    number(four.verdict as u64);
-    number(four.part as u64);
-    number(four.place as u64);
-    number(four.rule as u64);
+    let six = answer::six_numbers(a);
+    number(six.verdict as u64);
+    number(six.part as u64);
+    number(six.place as u64);
+    number(six.rule as u64);
+    number(six.expected as u64);
+    number(six.found as u64);
 }
 
-// A line of eight numbers: verdict, part, place, rule, version, seed, m, n.
+// A line of ten numbers: the answer's six, version, seed, m, n.
 fn show_reading(text: &[u8]) {
     let reading = label::read_label(text);
     let answer = reading.answer;

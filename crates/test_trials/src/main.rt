@@ -169,11 +169,13 @@ fn number(n: u64) {
 }
 
 fn show_answer(a: Answer) {
-    let four = answer::four_numbers(a);
-    number(four.verdict as u64);
-    number(four.part as u64);
-    number(four.place as u64);
-    number(four.rule as u64);
+    let six = answer::six_numbers(a);
+    number(six.verdict as u64);
+    number(six.part as u64);
+    number(six.place as u64);
+    number(six.rule as u64);
+    number(six.expected as u64);
+    number(six.found as u64);
 }
 
 // The bytes as digits, modulo a prime near 2^55: a change within six neighbours is always seen.
@@ -187,7 +189,7 @@ fn checksum(bytes: &[u8]) -> u64 {
     sum
 }
 
-// J: a line of verdict, part, place, rule.
+// J: a line of the answer's six numbers.
 fn show_judged(given: Given, program: &[u8], memory: &[u8], exec: &[u8], ext: &[u8]) {
     let p = least(given.program, program.len());
     let m = least(given.memory, memory.len());

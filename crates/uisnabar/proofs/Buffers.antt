@@ -11,7 +11,7 @@ use Rattle.answer.specs.Verdicts.{accepted}
 use Rattle.answer.specs.declared.Answer.the-variants.{Buffer}
 use Rattle.label.specs.declared.Reading.{Reading}
 use Rattle.label.specs.Reading.{Reads}
-use Rattle.reply.specs.Reply.{verdictOf, returned, replied}
+use Rattle.reply.specs.Reply.{answerBytes, verdictOf, returned, replied}
 use Rattle.uisnabar.specs.Calls.{recipeWords, bothFit, held, LabelCall}
 
 module _ (buffer : List ℕ) (size : ℕ) (other : length buffer ≡ size → ⊥) where
@@ -27,14 +27,14 @@ module _ (text answer recipe : List ℕ) (s : Reading) (reads : Reads text s) wh
       → LabelCall text answer recipe answerAfter recipe r
   unfit answerAfter r e told kept = record { reading = s; reads = reads; verdict = rw e told; answered = rw e kept; written = rw e }
 
-  pub fit : (answerAfter recipeAfter : List ℕ) (r : ℕ) → length answer ≡ 16 → length recipe ≡ 20
+  pub fit : (answerAfter recipeAfter : List ℕ) (r : ℕ) → length answer ≡ answerBytes → length recipe ≡ 20
       → r ≡ returned (s .answer) answer
       → answerAfter ≡ replied (s .answer) answer
       → recipeAfter ≡ held (accepted (s .answer)) 20 recipe (recipeWords (s .recipe))
       → LabelCall text answer recipe answerAfter recipeAfter r
   unfolding returned
   fit answerAfter recipeAfter r la lr told replied-to put =
-      let fa = eq-eqb (length answer) 16 la in
+      let fa = eq-eqb (length answer) answerBytes la in
       let fr = eq-eqb (length recipe) 20 lr in
       record {
         reading = s;

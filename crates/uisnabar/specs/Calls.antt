@@ -15,7 +15,7 @@ use Rattle.answer.specs.declared.Answer.the-variants.{Buffer}
 use Rattle.label.specs.declared.Recipe.{Recipe}
 use Rattle.label.specs.declared.Reading.{Reading}
 use Rattle.label.specs.Reading.{Reads}
-use Rattle.reply.specs.Reply.{verdictOf, answerWords}
+use Rattle.reply.specs.Reply.{answerBytes, verdictOf, answerWords}
 
 -- the judge's answer to what a call hands in
 abbrev pub answerTo : List ℕ → List ℕ → ℕ → ℕ → List ℕ → List ℕ → Answer
@@ -32,7 +32,7 @@ recipeBytes = 20
 
 -- ANSWER covers either buffer
 abbrev pub bothFit : List ℕ → List ℕ → Bool
-bothFit answer recipe = eqb (length answer) 16 && eqb (length recipe) recipeBytes
+bothFit answer recipe = eqb (length answer) answerBytes && eqb (length recipe) recipeBytes
 
 -- a buffer of a size where a test holds and as it was where it doesn't
 abbrev pub held : Bool → ℕ → List ℕ → List ℕ → List ℕ
@@ -43,5 +43,5 @@ pub record LabelCall (text answer recipe answerAfter recipeAfter : List ℕ) (re
   pub reading : Reading
   pub reads : Reads text reading
   pub verdict : returned ≡ cond (bothFit answer recipe) (verdictOf (reading .answer)) (verdictOf Buffer)
-  pub answered : answerAfter ≡ held (bothFit answer recipe) 16 answer (answerWords (reading .answer))
+  pub answered : answerAfter ≡ held (bothFit answer recipe) answerBytes answer (answerWords (reading .answer))
   pub written : recipeAfter ≡ held (bothFit answer recipe && accepted (reading .answer)) recipeBytes recipe (recipeWords (reading .recipe))

@@ -5,7 +5,7 @@ mod forms;
 
 use answer::Answer;
 use answer::accepted;
-use answer::four_numbers;
+use answer::six_numbers;
 pub use editions::uisnabar_translate;
 pub use forms::uisnabar_count;
 pub use forms::uisnabar_report;
@@ -34,7 +34,7 @@ pub extern "C" fn uisnabar_judge(
     ensures { λ r. ⌜ r ≡ returned (answerTo (now (program .entry)) (now (memory .entry)) pc fp (now (exec .entry)) (now (ext .entry))) (now (answer .entry)) ⌝ }
     ensures { λ _. ⌜ now (answer .exit) ≡ replied (answerTo (now (program .entry)) (now (memory .entry)) pc fp (now (exec .entry)) (now (ext .entry))) (now (answer .entry)) ⌝ }
 {
-    if answer.len() != 16 {
+    if answer.len() != 24 {
         return reply(answer, Answer::Buffer);
     }
     let a = judge::judge(program, memory, pc, fp, exec, ext);
@@ -69,11 +69,11 @@ pub extern "C" fn uisnabar_label(text: &[u8], answer: &mut [u8], recipe: &mut [u
     ensures { λ r. ⌜ LabelCall (now (text .entry)) (now (answer .entry)) (now (recipe .entry)) (now (answer .exit)) (now (recipe .exit)) r ⌝ }
 {
     let reading = read_label(text);
-    if answer.len() != 16 {
+    if answer.len() != 24 {
         return reply(answer, Answer::Buffer);
     }
     if recipe.len() != 20 {
-        let other = four_numbers(Answer::Buffer);
+        let other = six_numbers(Answer::Buffer);
         return other.verdict;
     }
     let a = reading.answer;

@@ -12,7 +12,7 @@ use borrow.Author.Tests.{ne-eqb}
 use Rattle.word.proofs.Tests.{cases}
 use Rattle.answer.specs.declared.Answer.the-variants.{Accepted}
 use Rattle.answer.proofs.Named.{verdict-zero}
-use Rattle.reply.specs.Reply.{verdictOf, returned}
+use Rattle.reply.specs.Reply.{answerBytes, verdictOf, returned}
 use Rattle.edition_spec.specs.Translated.{programLeft}
 use Rattle.edition_spec.specs.Same.{SameRuns, Usable}
 use Rattle.edition_spec.proofs.Same.{same, usable, refusal-keeps}
@@ -20,10 +20,10 @@ use Rattle.uisnabar_edition.specs.TranslateCall.{translateTold, translat
 
 module _ (old program answer : List ℕ) where
   module _ (zero : translateReturned old program answer ≡ 0) where
-    -- ANSWER is 13, so the answer buffer has 16 bytes
-    whole : eqb (length answer) 16 ≡ true
+    -- ANSWER is 13, so the answer buffer has its 24 bytes
+    whole : eqb (length answer) answerBytes ≡ true
     unfolding returned
-    whole = cases (eqb (length answer) 16) (λ t. t) (λ f. absurd (omega (arith, rw f at zero)))
+    whole = cases (eqb (length answer) answerBytes) (λ t. t) (λ f. absurd (omega (arith, rw f at zero)))
 
     told : translateTold old program answer ≡ Accepted
     unfolding returned
@@ -42,6 +42,6 @@ module _ (old program answer : List ℕ) where
   pub call-keeps : (translateReturned old program answer ≡ 0 → ⊥) → translateProgramLeft old program answer ≡ program
   unfolding translateProgramLeft returned
   call-keeps not =
-      cases (eqb (length answer) 16)
+      cases (eqb (length answer) answerBytes)
       (λ t. rw t (refusal-keeps old program (ne-eqb (verdictOf (translateTold old program answer)) 0 (λ e. not (rw t e)))))
       (λ f. rw f)

@@ -7,7 +7,7 @@ use mathlib.Core.List.{List}
 use lib.Dec.{eqb}
 use lib.ListN.{length}
 use Rattle.answer.specs.declared.Answer.{Answer}
-use Rattle.reply.specs.Reply.{returned, replied}
+use Rattle.reply.specs.Reply.{answerBytes, returned, replied}
 use Rattle.edition_spec.specs.Translated.{translateAnswer, programLeft}
 
 module _ (old program answer : List ℕ) where
@@ -19,7 +19,7 @@ module _ (old program answer : List ℕ) where
 
   -- written on ACCEPTED alone
   unfoldable pub translateProgramLeft : List ℕ
-  translateProgramLeft = cond (eqb (length answer) 16) (programLeft old program) program
+  translateProgramLeft = cond (eqb (length answer) answerBytes) (programLeft old program) program
 
   abbrev pub translateAnswerLeft : List ℕ
   translateAnswerLeft = replied translateTold answer

@@ -11,7 +11,7 @@ pub fn translate_call(old: &[u8], program: &mut [u8], answer: &mut [u8]) -> u32
     ensures { λ _. ⌜ now (program .exit) ≡ translateProgramLeft (now (old .entry)) (now (program .entry)) (now (answer .entry)) ⌝ }
     ensures { λ _. ⌜ now (answer .exit) ≡ translateAnswerLeft (now (old .entry)) (now (program .entry)) (now (answer .entry)) ⌝ }
 {
-    if answer.len() != 16 {
+    if answer.len() != 24 {
         return reply(answer, Answer::Buffer);
     }
     let a = translate(old, program);

@@ -8,6 +8,7 @@ use native.Mathlib.Omega.{arith}
 use lib.Dec.{eqb}
 use lib.ListN.{length, getD, replicate, length-replicate}
 use borrow.Author.Tests.{eq-eqb}
+use Rattle.reply.specs.Reply.{answerBytes}
 use Rattle.word.proofs.Tests.{cases}
 use Rattle.answer.specs.Verdicts.{accepted}
 use Rattle.rules.specs.Sizes.{Parts, tablesOf}
@@ -25,7 +26,7 @@ module _ (grid : List ℕ) (whole : length grid ≡ 135) (small : sumOf grid ≤
   back = reads-back grid whole (λ k h. omega (arith, at-most-sum grid k))
 
   -- a call leaves the bytes of the counted grid
-  one-call : countGridLeft q (gridBytes grid) (replicate 16 0) ≡ gridBytes (countGrid grid q)
+  one-call : countGridLeft q (gridBytes grid) (replicate answerBytes 0) ≡ gridBytes (countGrid grid q)
   unfolding countGridLeft
   one-call =
       rw (eq-eqb (length (gridBytes grid)) 1080 (grid-length grid), back)
@@ -51,6 +52,6 @@ called-fresh qs =
     ∙ called-from fresh (length-replicate {A = ℕ} 135 0) (omega arith) qs
 
 -- whatever the answer buffer holds
-pub any-answer : (q : Parts) (grid answer : List ℕ) → length answer ≡ 16 → countGridLeft q grid answer ≡ countGridLeft q grid (replicate 16 0)
+pub any-answer : (q : Parts) (grid answer : List ℕ) → length answer ≡ answerBytes → countGridLeft q grid answer ≡ countGridLeft q grid (replicate answerBytes 0)
 unfolding countGridLeft
-any-answer q grid answer e = rw (eq-eqb (length answer) 16 e)
+any-answer q grid answer e = rw (eq-eqb (length answer) answerBytes e)

@@ -12,7 +12,7 @@ use Rattle.answer.specs.Verdicts.{accepted}
 use Rattle.answer.specs.declared.Answer.{Answer}
 use Rattle.answer.specs.declared.Answer.the-variants.{Buffer}
 use Rattle.rules.specs.Sizes.{Parts}
-use Rattle.reply.specs.Reply.{verdictOf, returned, replied}
+use Rattle.reply.specs.Reply.{answerBytes, verdictOf, returned, replied}
 use Rattle.grid_spec.specs.Grid.{countAnswer, countGrid}
 use Rattle.grid_bytes.specs.GridBytes.{gridOf, gridBytes}
 use Rattle.uisnabar_forms.specs.CountCall.{countFits, countReturned, countGridLeft, countAnswerLeft}
@@ -28,8 +28,8 @@ module _ (q : Parts) (grid answer : List ℕ) where
   unfit-call e r told = (rw e told, (rw e, rw e))
 
   module _ (e : countFits q grid answer ≡ true) where
-    lengths : (eqb (length grid) 1080 ≡ true) × (eqb (length answer) 16 ≡ true)
-    lengths = each (eqb (length grid) 1080) (eqb (length answer) 16 ∷ []) e
+    lengths : (eqb (length grid) 1080 ≡ true) × (eqb (length answer) answerBytes ≡ true)
+    lengths = each (eqb (length grid) 1080) (eqb (length answer) answerBytes ∷ []) e
 
     pub grid-whole : length grid ≡ 1080
     grid-whole = eqb-true (length grid) 1080 (lengths .0)

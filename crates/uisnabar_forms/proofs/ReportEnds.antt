@@ -12,7 +12,7 @@ use Rattle.word.proofs.Tests.{each}
 use Rattle.answer.specs.declared.Answer.{Answer}
 use Rattle.answer.specs.declared.Answer.the-variants.{Buffer}
 use Rattle.long.specs.Long.{longBytes}
-use Rattle.reply.specs.Reply.{verdictOf, returned, replied}
+use Rattle.reply.specs.Reply.{answerBytes, verdictOf, returned, replied}
 use Rattle.grid_spec.specs.Report.{reportAnswer, reportLength, reportedIn}
 use Rattle.grid_bytes.specs.GridBytes.{gridOf}
 use Rattle.uisnabar_forms.specs.ReportCall.{reportFits, reportReturned, reportTextLeft, reportWrittenLeft, reportAnswerLeft}
@@ -30,9 +30,9 @@ module _ (grid text written answer : List ℕ) where
   unfit-call e r told = (rw e told, (rw e, (rw e, rw e)))
 
   module _ (e : reportFits grid text written answer ≡ true) where
-    lengths : (eqb (length grid) 1080 ≡ true) × (eqb (length written) 8 ≡ true) × (eqb (length answer) 16 ≡ true)
+    lengths : (eqb (length grid) 1080 ≡ true) × (eqb (length written) 8 ≡ true) × (eqb (length answer) answerBytes ≡ true)
     lengths =
-        let t = each (eqb (length grid) 1080) (eqb (length written) 8 ∷ eqb (length answer) 16 ∷ []) e in
+        let t = each (eqb (length grid) 1080) (eqb (length written) 8 ∷ eqb (length answer) answerBytes ∷ []) e in
         (t .0, t .1 .0, t .1 .1)
 
     pub grid-whole : length grid ≡ 1080

@@ -11,7 +11,7 @@ use Rattle.answer.specs.Verdicts.{accepted}
 use Rattle.answer.specs.declared.Answer.{Answer}
 use Rattle.answer.specs.declared.Answer.the-variants.{Buffer}
 use Rattle.rules.specs.Sizes.{Parts}
-use Rattle.reply.specs.Reply.{verdictOf, answerWords}
+use Rattle.reply.specs.Reply.{answerBytes, verdictOf, answerWords}
 use Rattle.grid_spec.specs.Grid.{countAnswer, countGrid}
 use Rattle.grid_bytes.specs.GridBytes.{gridOf, gridBytes}
 
@@ -21,9 +21,9 @@ partsOf program memory pc fp exec ext =
     record { program = program; memory = memory; exec = exec; ext = ext; pc = pc; fp = fp }
 
 module _ (q : Parts) (grid answer : List ℕ) where
-  -- 1,080 bytes and 16
+  -- 1,080 bytes and 24
   abbrev pub countFits : Bool
-  countFits = eqb (length grid) 1080 && eqb (length answer) 16
+  countFits = eqb (length grid) 1080 && eqb (length answer) answerBytes
 
   abbrev pub countTold : Answer
   countTold = countAnswer (gridOf grid) q
@@ -36,4 +36,4 @@ module _ (q : Parts) (grid answer : List ℕ) where
   countGridLeft = cond (countFits && accepted countTold) (gridBytes (countGrid (gridOf grid) q)) grid
 
   unfoldable pub countAnswerLeft : List ℕ
-  countAnswerLeft = cond countFits (putRow answer 16 (answerWords countTold)) answer
+  countAnswerLeft = cond countFits (putRow answer answerBytes (answerWords countTold)) answer

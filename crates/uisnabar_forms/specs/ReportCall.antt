@@ -10,14 +10,14 @@ use Rattle.rows.specs.Rows.{putRow}
 use Rattle.answer.specs.declared.Answer.{Answer}
 use Rattle.answer.specs.declared.Answer.the-variants.{Buffer}
 use Rattle.long.specs.Long.{longBytes}
-use Rattle.reply.specs.Reply.{verdictOf, answerWords}
+use Rattle.reply.specs.Reply.{answerBytes, verdictOf, answerWords}
 use Rattle.grid_spec.specs.Report.{reportAnswer, reportLength, reportedIn}
 use Rattle.grid_bytes.specs.GridBytes.{gridOf}
 
 module _ (grid text written answer : List ℕ) where
-  -- 1,080 bytes, 8 and 16
+  -- 1,080 bytes, 8 and 24
   abbrev pub reportFits : Bool
-  reportFits = eqb (length grid) 1080 && eqb (length written) 8 && eqb (length answer) 16
+  reportFits = eqb (length grid) 1080 && eqb (length written) 8 && eqb (length answer) answerBytes
 
   abbrev pub reportTold : Answer
   reportTold = reportAnswer (gridOf grid) (length text)
@@ -33,4 +33,4 @@ module _ (grid text written answer : List ℕ) where
   reportWrittenLeft = cond reportFits (longBytes (reportLength (gridOf grid) (length text))) written
 
   unfoldable pub reportAnswerLeft : List ℕ
-  reportAnswerLeft = cond reportFits (putRow answer 16 (answerWords reportTold)) answer
+  reportAnswerLeft = cond reportFits (putRow answer answerBytes (answerWords reportTold)) answer

@@ -1,7 +1,7 @@
 // Form counts as C calls give them: document 02, M-100. The library's functions hand on to these.
 use answer::Answer;
 use answer::accepted;
-use answer::four_numbers;
+use answer::six_numbers;
 use grid::count;
 use grid_bytes::read_grid;
 use grid_bytes::write_grid;
@@ -14,7 +14,7 @@ ghost use lib.Dec.{eqb};
 ghost use lib.ListN.{length};
 ghost use Rattle.answer.specs.Verdicts.{accepted};
 ghost use Rattle.answer.specs.declared.Answer.the-variants.{Buffer};
-ghost use Rattle.reply.specs.Reply.{verdictOf};
+ghost use Rattle.reply.specs.Reply.{answerBytes, verdictOf};
 ghost use Rattle.grid_bytes.specs.GridBytes.{gridBytes};
 ghost use Rattle.uisnabar_forms.specs.CountCall.{partsOf, countReturned, countGridLeft, countAnswerLeft};
 ghost use Rattle.uisnabar_forms.specs.ReportCall.{reportReturned, reportTextLeft, reportWrittenLeft, reportAnswerLeft};
@@ -23,21 +23,21 @@ ghost use Rattle.uisnabar_forms.specs.ReportCall.{reportReturned, report
 fn unfit() -> u32
     ensures { λ r. ⌜ r ≡ verdictOf Buffer ⌝ }
 {
-    let numbers = four_numbers(Answer::Buffer);
+    let numbers = six_numbers(Answer::Buffer);
     numbers.verdict
 }
 
 // Whether the buffers of fixed length have it.
 fn count_fits(grid: usize, answer: usize) -> bool
-    ensures { λ r. ⌜ r ≡ (eqb grid 1080 && eqb answer 16) ⌝ }
+    ensures { λ r. ⌜ r ≡ (eqb grid 1080 && eqb answer answerBytes) ⌝ }
 {
-    (grid == 1080) & (answer == 16)
+    (grid == 1080) & (answer == 24)
 }
 
 fn report_fits(grid: usize, written: usize, answer: usize) -> bool
-    ensures { λ r. ⌜ r ≡ (eqb grid 1080 && eqb written 8 && eqb answer 16) ⌝ }
+    ensures { λ r. ⌜ r ≡ (eqb grid 1080 && eqb written 8 && eqb answer answerBytes) ⌝ }
 {
-    (grid == 1080) & (written == 8) & (answer == 16)
+    (grid == 1080) & (written == 8) & (answer == 24)
 }
 
 // The grid's bytes, where the answer is ACCEPTED.

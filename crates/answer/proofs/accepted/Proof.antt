@@ -7,7 +7,7 @@ use Rattle.answer.proofs.accepted.Statement.{statement}
 use Rattle.answer.proofs.accepted.Tie as tie
 
 returns : tie.Need-returns
-returns c = ap (λ (n : Numbers). eqb (n .verdict) 0) (c .before .four-numbers .ensures)
+returns c = ap (λ (n : Numbers). eqb (n .verdict) 0) (c .before .six-numbers .ensures)
 
 pub accepted-spec : {M : Type 1} → statement M
 accepted-spec = tie.close (tie.spec (λ c κs. search needs) returns)

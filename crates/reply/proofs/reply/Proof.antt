@@ -1,9 +1,9 @@
--- A buffer of another length is ANSWER's; else the four numbers are put.
+-- A buffer of another length is ANSWER's; else the six numbers are put.
 use borrow.Author.Needs.{needs}
 use lib.ListN.{length}
 use borrow.Author.Tests.{eq-eqb, ne-eqb}
 use Rattle.rows.proofs.Writing.{row-left}
-use Rattle.reply.specs.Reply.{returned}
+use Rattle.reply.specs.Reply.{answerBytes, returned}
 use Rattle.reply.proofs.reply.Statement.{statement}
 use Rattle.reply.proofs.reply.Tie as tie
 
@@ -12,14 +12,14 @@ unfolding returned
 returns c =
     let buffer = c .before .before .before .args .buffer .now in
     let other = c .before .if1 .taken in
-    (rw (ne-eqb (length buffer) 16 other, c .four-numbers .ensures), row-left buffer 16 _ other)
+    (rw (ne-eqb (length buffer) answerBytes other, c .six-numbers .ensures), row-left buffer answerBytes _ other)
 
 returns-2 : tie.Need-returns-2
 unfolding returned
 returns-2 c =
     let s = c .before .before .before .before .before .before .before .args in
-    let four = c .before .before .before .before .four-numbers2 .ensures in
-    (rw (eq-eqb (length (s .buffer .now)) 16 (c .before .before .before .before .before .if1 .left), four), rw four at (c .before .before .put-four .ensures))
+    let six = c .before .before .before .before .six-numbers2 .ensures in
+    (rw (eq-eqb (length (s .buffer .now)) answerBytes (c .before .before .before .before .before .if1 .left), six), rw six at (c .before .before .put-numbers .ensures))
 
 pub reply-spec : {M : Type 1} → statement M
 reply-spec =

@@ -3,6 +3,7 @@ use borrow.Author.Needs.{needs}
 use lib.Dec.{eqb}
 use lib.ListN.{length}
 use mathlib.Core.Path.{refl, _∙_}
+use Rattle.reply.specs.Reply.{answerBytes}
 use Rattle.answer.specs.declared.Answer.the-variants.{Buffer}
 use Rattle.reply.proofs.Unfit.{buffer-told, unchanged}
 use Rattle.uisnabar.proofs.Buffers.{unfit-left, unfit-right, unfit, fit}
@@ -15,7 +16,7 @@ returns c =
     let answer = s .answer .now in
     let told = c .before .before .reply .ensures in
     let other = c .before .before .before .before .if1 .taken in
-    unfit (s .text .now) answer (s .recipe .now) _ (c .before .before .before .before .before .read-label .ensures) _ _ (unfit-left answer 16 other _)
+    unfit (s .text .now) answer (s .recipe .now) _ (c .before .before .before .before .before .read-label .ensures) _ _ (unfit-left answer answerBytes other _)
     (told .0 ∙ buffer-told answer other Buffer) (told .1 ∙ unchanged answer other Buffer)
 
 returns-2 : tie.Need-returns-2
@@ -23,8 +24,8 @@ returns-2 c =
     let s = c .before .before .before .before .before .before .before .args in
     let recipe = s .recipe .now in
     let other = c .before .if2 .taken in
-    unfit (s .text .now) (s .answer .now) recipe _ (c .before .before .before .read-label .ensures) _ _ (unfit-right recipe 20 other (eqb (length (s .answer .now)) 16))
-    (rw (c .four-numbers .ensures)) refl
+    unfit (s .text .now) (s .answer .now) recipe _ (c .before .before .before .read-label .ensures) _ _ (unfit-right recipe 20 other (eqb (length (s .answer .now)) answerBytes))
+    (rw (c .six-numbers .ensures)) refl
 
 returns-3 : tie.Need-returns-3
 returns-3 c =

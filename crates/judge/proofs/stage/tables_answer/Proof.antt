@@ -5,9 +5,9 @@ use borrow.Author.Tests.{not-true, not-false}
 use mathlib.Core.Path.{_≡_, refl, ap, _∙_}
 use native.Mathlib.Omega.{arith}
 use Rattle.answer.specs.declared.Answer.{Answer}
-use Rattle.answer.specs.declared.Answer.the-variants.{Word, Instruction, Exec, Extension}
+use Rattle.answer.specs.declared.Answer.the-variants.{Word, Instruction}
 use Rattle.rules.specs.Sizes.{given, tables}
-use Rattle.judge_spec.specs.Judged.{words, instructions, startsAt, execution, execFailing, extFailing}
+use Rattle.judge_spec.specs.Judged.{words, instructions, startsAt, execution, execFailing, execRefusal, extFailing, extRefusal}
 use Rattle.inputs.proofs.Formed.{all-formed}
 use Rattle.bus_tuples.specs.Order.{pulledBy}
 use Rattle.judge_walks.proofs.Rows.{tested-words, at-end}
@@ -75,18 +75,23 @@ returns-4 c = past-3 (c .before .before) (unmet _ (c .before .starts .ensures) (
 
 returns-5 : tie.Need-returns-5
 returns-5 c =
-    let e1 = c .before .before .before .before .before .before .before in
+    let then5 = c .before in
+    let e1 = then5 .before .before .before .before .before .before .before in
     let a = start e1 .args in
-    let failing = execFailing (given (a .program .now) (a .memory .now)) (tables (a .exec .now) (a .ext .now)) in
-    past-4 (c .before) (row-here Exec _ failing (e1 .before .before .exec-walk .ensures .0) (c .if5 .taken))
+    let g = given (a .program .now) (a .memory .now) in
+    let t = tables (a .exec .now) (a .ext .now) in
+    past-4 (then5 .before)
+    (c .exec-refused .ensures ∙ row-here (execRefusal g t) _ (execFailing g t) (e1 .before .before .exec-walk .ensures .0) (then5 .if5 .taken))
 
 returns-6 : tie.Need-returns-6
 returns-6 c =
-    let e2 = c .before .before .before .before .before in
+    let then6 = c .before in
+    let e2 = then6 .before .before .before .before .before in
     let a = start-2 e2 .args in
-    let failing = extFailing (given (a .program .now) (a .memory .now)) (tables (a .exec .now) (a .ext .now)) in
+    let g = given (a .program .now) (a .memory .now) in
+    let t = tables (a .exec .now) (a .ext .now) in
     let walked = any-program (a .program .now) (a .memory .now) (a .exec .now) (a .ext .now) (e2 .before .before .ext-walk .ensures) in
-    past-5 (c .before) (row-here Extension _ failing walked (c .if6 .taken))
+    past-5 (then6 .before) (c .ext-refused .ensures ∙ row-here (extRefusal g t) _ (extFailing g t) walked (then6 .if6 .taken))
 
 bus-answer-requires : tie.Need-bus-answer-requires
 bus-answer-requires c κs =
@@ -135,9 +140,9 @@ tables-answer-spec =
     returns-3
     (λ c κs. search needs)
     returns-4
-    (λ c. search needs)
+    (λ c κs. search needs)
     returns-5
-    (λ c. search needs)
+    (λ c κs. search needs)
     returns-6
     bus-answer-requires
     returns-7)

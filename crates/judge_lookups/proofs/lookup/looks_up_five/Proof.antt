@@ -1,50 +1,34 @@
--- The last address past the end is no cell; else the words read are the five cells'.
+-- Each cell is looked up.
 use borrow.Author.Needs.{needs}
-use Rattle.judge_lookups.proofs.Quick.{no-five-cells, five-cells}
 use Rattle.judge_lookups.proofs.lookup.looks_up_five.Statement.{statement}
 use Rattle.judge_lookups.proofs.lookup.looks_up_five.Tie as tie
 
 returns : tie.Need-returns
 returns c =
-    let args = c .before .before .args in
-    no-five-cells (args .memory .now) (args .addr) (args .t3) (c .if1 .taken)
-
-returns-2 : tie.Need-returns-2
-returns-2 c =
-    let else1 = c .before .before .before .before .before in
-    let args = else1 .before .before .args in
     rw (
-      c .word-inside5 .ensures,
-      c .before .word-inside4 .ensures,
-      c .before .before .word-inside3 .ensures,
-      c .before .before .before .word-inside2 .ensures,
-      c .before .before .before .before .word-inside .ensures,
+      c .looks-up5 .ensures,
+      c .before .looks-up4 .ensures,
+      c .before .before .looks-up3 .ensures,
+      c .before .before .before .looks-up2 .ensures,
+      c .before .before .before .before .looks-up .ensures,
     )
-    (five-cells (args .memory .now) (args .addr) (args .t3) (else1 .if1 .left))
 
 pub looks-up-five-spec : {M : Type 1} → statement M
 looks-up-five-spec =
     tie.close
     (tie.spec
     (λ c. search needs)
-    returns
+    (λ c κs. search needs)
     (λ c. search needs)
     (λ c. search needs)
     (λ c κs. search needs)
     (λ c. search needs)
     (λ c. search needs)
-    (λ c. search needs)
     (λ c κs. search needs)
-    (λ c. search needs)
-    (λ c. search needs)
-    (λ c. search needs)
-    (λ c κs. search needs)
-    (λ c. search needs)
     (λ c. search needs)
     (λ c. search needs)
     (λ c κs. search needs)
     (λ c. search needs)
     (λ c. search needs)
-    (λ c. search needs)
     (λ c κs. search needs)
-    returns-2)
+    returns)

@@ -11,7 +11,7 @@ use Rattle.tabler.proofs.finish.finish.Tie as tie
 returns : tie.Need-returns
 returns c =
     let t = c .before .before .before .before .before .before .before .before in
-    let x = t .before .before .four-numbers in
+    let x = t .before .before .six-numbers in
     let a = t .before .before .before .before .before .before .before in
     let s = a .before .before .before .before .before .before .before .args in
     left-zero (s .program .now) (s .memory .now) (s .pc) (s .fp) (s .exec .now) (s .ext .now) (a .run .ensures)
@@ -21,7 +21,7 @@ returns c =
 
 returns-2 : tie.Need-returns-2
 returns-2 c =
-    let x = c .before .before .four-numbers in
+    let x = c .before .before .six-numbers in
     let a = c .before .before .before .before .before .before .before in
     let s = a .before .before .before .before .before .before .before .args in
     left-filled (s .program .now) (s .memory .now) (s .pc) (s .fp) (s .exec .now) (s .ext .now) (a .run .ensures)

@@ -1,10 +1,10 @@
--- `answer::four_numbers` meets its contract: in each arm the variant is known, and `four` gives its numbers.
+-- `answer::six_numbers` meets its contract: in each arm the variant is known, and `four` or `six` gives its numbers.
 use borrow.Author.Needs.{needs}
-use Rattle.answer.proofs.four_numbers.Statement.{statement}
-use Rattle.answer.proofs.four_numbers.Tie as tie
+use Rattle.answer.proofs.six_numbers.Statement.{statement}
+use Rattle.answer.proofs.six_numbers.Tie as tie
 
-pub four-numbers-spec : {M : Type 1} → statement M
-four-numbers-spec =
+pub six-numbers-spec : {M : Type 1} → statement M
+six-numbers-spec =
     tie.close
     (tie.spec
     (λ c. search needs)
@@ -44,14 +44,14 @@ four-numbers-spec =
     (λ c. rw (c .four3 .ensures, c .before .before .a2 .given .1))
     (λ c. rw (c .four4 .ensures, c .before .before .a3 .given .1))
     (λ c. rw (c .four5 .ensures, c .before .enum-told2 .given .1))
-    (λ c. rw (c .four6 .ensures, c .before .before .a4 .given .1))
-    (λ c. rw (c .four7 .ensures, c .before .before .a5 .given .1))
-    (λ c. rw (c .four8 .ensures, c .before .before .a6 .given .1))
-    (λ c. rw (c .four9 .ensures, c .before .before .a7 .given .1))
-    (λ c. rw (c .four10 .ensures, c .before .before .a8 .given .1))
-    (λ c. rw (c .four11 .ensures, c .before .before .a9 .given .1))
-    (λ c. rw (c .four12 .ensures, c .before .before .a10 .given .1))
-    (λ c. rw (c .four13 .ensures, c .before .enum-told3 .given .1))
-    (λ c. rw (c .four14 .ensures, c .before .enum-told4 .given .1))
-    (λ c. rw (c .four15 .ensures, c .before .enum-told5 .given .1))
-    (λ c. rw (c .four16 .ensures, c .before .before .a11 .given .1)))
+    (λ c. rw (c .six .ensures, c .before .before .a4 .given .1))
+    (λ c. rw (c .six2 .ensures, c .before .before .a5 .given .1))
+    (λ c. rw (c .four6 .ensures, c .before .before .a6 .given .1))
+    (λ c. rw (c .four7 .ensures, c .before .before .a7 .given .1))
+    (λ c. rw (c .four8 .ensures, c .before .before .a8 .given .1))
+    (λ c. rw (c .four9 .ensures, c .before .before .a9 .given .1))
+    (λ c. rw (c .four10 .ensures, c .before .before .a10 .given .1))
+    (λ c. rw (c .four11 .ensures, c .before .enum-told3 .given .1))
+    (λ c. rw (c .four12 .ensures, c .before .enum-told4 .given .1))
+    (λ c. rw (c .four13 .ensures, c .before .enum-told5 .given .1))
+    (λ c. rw (c .four14 .ensures, c .before .before .a11 .given .1)))

@@ -1,0 +1,71 @@
+// What a lookup that fails found: document 02, M-104.
+use crate::lookup::Cell;
+use crate::lookup::look;
+use rules::Found;
+ghost use mathlib.Core.Path.{_≡_};
+ghost use mathlib.Core.Bool.{cond};
+ghost use mathlib.Core.List.{[], _∷_};
+ghost use Prim.Native.Nat.{_/_, _<_};
+ghost use lib.Dec.{eqb};
+ghost use lib.ListN.{length};
+ghost use Rattle.rows.specs.Rows.{fiveWords};
+ghost use Rattle.rules.specs.Sizes.{wordOf};
+ghost use Rattle.rules.specs.Lookups.{finding, foundBy};
+
+// Nothing is said.
+pub fn nothing() -> Found
+    ensures { λ r. ⌜ r ≡ finding 0 0 ⌝ }
+{
+    Found {
+        expected: 0,
+        found: 0,
+    }
+}
+
+// A cell's word and the column's where they differ, and else what the cells after it say.
+fn compared(expected: u32, found: u32, rest: Found) -> Found
+    ensures { λ r. ⌜ r ≡ cond (eqb found expected) rest (finding expected found) ⌝ }
+{
+    if found == expected {
+        return rest;
+    }
+    Found { expected, found }
+}
+
+// The same of a cell that is there.
+fn compared_at(memory: &[u8], at: usize, found: u32, rest: Found) -> Found
+    requires { ⌜ at < length (now memory) / 4 ⌝ }
+    ensures { λ r. ⌜ r ≡ cond (eqb found (wordOf (now (memory .entry)) at)) rest (finding (wordOf (now (memory .entry)) at) found) ⌝ }
+{
+    match look(memory, at) {
+        Cell::Word(expected) => compared(expected, found, rest),
+        Cell::Outside => rest,
+    }
+}
+
+// Of a lookup of one cell.
+pub fn found_one(memory: &[u8], addr: u32, value: u32) -> Found
+    ensures { λ r. ⌜ r ≡ foundBy (length (now (memory .entry)) / 4) (wordOf (now (memory .entry))) addr (value ∷ []) ⌝ }
+{
+    match look(memory, addr as usize) {
+        Cell::Word(expected) => compared(expected, value, nothing()),
+        Cell::Outside => nothing(),
+    }
+}
+
+// Of five cells: where the last is there all are.
+pub fn found_five(memory: &[u8], addr: u32, a: [u32; 5]) -> Found
+    ensures { λ r. ⌜ r ≡ foundBy (length (now (memory .entry)) / 4) (wordOf (now (memory .entry))) addr (fiveWords a) ⌝ }
+{
+    let at = addr as usize;
+    match look(memory, at + 4) {
+        Cell::Word(last) => {
+            let fifth = compared(last, a[4], nothing());
+            let fourth = compared_at(memory, at + 3, a[3], fifth);
+            let third = compared_at(memory, at + 2, a[2], fourth);
+            let second = compared_at(memory, at + 1, a[1], third);
+            compared_at(memory, at, a[0], second)
+        }
+        Cell::Outside => nothing(),
+    }
+}
