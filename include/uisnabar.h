@@ -11,9 +11,16 @@
  * with them is the answer. No buffer need be aligned. A word of an input is 4 bytes, little-endian, below p = 2^31 -
  * 2^24 + 1 = 2,130,706,433.
  *
- * Answers. The verdict is returned. The four numbers verdict, part, place and rule are written to `answer`, 4 bytes
- * each, little-endian; a number that a verdict does not name is 0. On ANSWER nothing is written, so a driver looks at
- * the returned verdict before it reads the buffer. docs/VERDICTS.md is the same table at length.
+ * Answers. The verdict is returned. The six numbers verdict, part, place, rule, expected and found are written to
+ * `answer` in this order, 4 bytes each, little-endian; a number that a verdict does not name is 0. On ANSWER nothing is
+ * written, so a driver looks at the returned verdict before it reads the buffer. docs/VERDICTS.md is the same table at
+ * length.
+ *
+ * Expected and found, bytes 16 to 19 and 20 to 23, are of lookups: EXEC with rule 2, 3 or 4, and EXTENSION with rule
+ * 18, 19, 20 or 21. Where every cell that the rule looks up is below M, the number of cells, expected is the word that
+ * the memory's cell holds, and found the word that the table's column has; of five cells, those of the first that
+ * differs. The two differ then, so one of them may be 0, and not both. Both 0 says nothing: the answer is of another
+ * verdict or rule, or a cell that the rule looks up is not below M; of five any one, even where an earlier one differs.
  */
 #ifndef UISNABAR_H
 #define UISNABAR_H
@@ -22,9 +29,9 @@
 #include <stdint.h>
 
 /* The version of this header and of the library it was made for. */
-#define UISNABAR_VERSION "2.0.0"
+#define UISNABAR_VERSION "3.0.0"
 /* The length of `answer`, and of `recipe`. Later versions may ask for more: use these names, and no number. */
-#define UISNABAR_ANSWER_BYTES 16
+#define UISNABAR_ANSWER_BYTES 24
 #define UISNABAR_RECIPE_BYTES 20
 /* The length of `grid` and of `written`, and of the longest report that there is. */
 #define UISNABAR_GRID_BYTES 1080
@@ -46,8 +53,11 @@ enum uisnabar_verdict {
     UISNABAR_WORD = 2,        /* part, place: the first word at or above p, by part */
     UISNABAR_INSTRUCTION = 3, /* part 1, place: the first malformed instruction */
     UISNABAR_START = 4,       /* row 0 of the execution table isn't the start */
-    UISNABAR_EXEC = 5,        /* part 3, place: row, rule: 1 to 16; first by row, then by rule */
-    UISNABAR_EXTENSION = 6,   /* part 4, place: row, rule: first by row, then 18 to 21, then 1 to 17 */
+    UISNABAR_EXEC = 5,        /* part 3, place: row, rule: 1 to 16; first by row, then by rule. Expected and found of a
+                               * lookup, rule 2, 3 or 4: the cell at addr A, B or C, and value A, B or C */
+    UISNABAR_EXTENSION = 6,   /* part 4, place: row, rule: first by row, then 18 to 21, then 1 to 17. Of a lookup, rule
+                               * 18: the cell at idxA, and vA base; 19, 20 or 21: of the five cells from idxA, idxB or
+                               * idxR on the first that differs, and the word of vA, vB or res in its place */
     UISNABAR_BUS = 7,         /* part 3, place: first pushing row of an unequal tuple; else part 4, first pulling row */
     UISNABAR_LABEL = 8,       /* place: longest prefix shared with any valid label */
     UISNABAR_STUCK = 9,
