@@ -3,12 +3,18 @@
 
 struct answer answer_of(uint32_t verdict, const uint8_t *bytes)
 {
-    return (struct answer){verdict, word_at(bytes + 4), word_at(bytes + 8), word_at(bytes + 12)};
+    return (struct answer){.verdict = verdict,
+                           .part = word_at(bytes + 4),
+                           .place = word_at(bytes + 8),
+                           .rule = word_at(bytes + 12),
+                           .expected = word_at(bytes + 16),
+                           .found = word_at(bytes + 20)};
 }
 
 int status_of(struct answer answer) { return answer.verdict == UISNABAR_ACCEPTED ? ACCEPTED : REFUSED; }
 
 void print_lines(struct answer answer)
 {
-    printf("verdict=%u\npart=%u\nplace=%u\nrule=%u\n", answer.verdict, answer.part, answer.place, answer.rule);
+    printf("verdict=%u\npart=%u\nplace=%u\nrule=%u\nexpected=%u\nfound=%u\n", answer.verdict, answer.part, answer.place, answer.rule,
+           answer.expected, answer.found);
 }

@@ -1,5 +1,5 @@
-/* What the files of the command share. Every judgement is the library's: nothing here tests a rule. (edition.c says why
- * an instruction was refused, once the library has refused it.) */
+/* What the files of the command share. Every judgement is the library's: nothing here tests a rule. (Of what it refused,
+ * edition.c says why an instruction was, and lookups.c which cell a lookup was of.) */
 #ifndef CLI_H
 #define CLI_H
 
@@ -29,7 +29,7 @@ struct given {
 };
 
 struct answer {
-    uint32_t verdict, part, place, rule;
+    uint32_t verdict, part, place, rule, expected, found;
 };
 
 /* main.c: a sentence on standard error, which gives FAILED; whether standard output was written whole, 0 or FAILED */
@@ -124,6 +124,9 @@ void label_sentence(FILE *out, struct bytes text, struct answer answer, const ui
 
 /* edition.c: the same of a translation; where an instruction is refused, its words on a line more */
 void translate_sentence(FILE *out, const struct given *given, struct answer answer);
+
+/* lookups.c: how the judge's sentence ends where it is of a lookup: which cell, and which column; else nothing */
+void lookup_sentence(FILE *out, const struct given *given, struct answer answer);
 
 /* paste.c: the text to send in a dispute */
 void print_paste(FILE *out, const struct given *given, struct answer answer, char sums[PARTS][SUM_DIGITS + 1]);

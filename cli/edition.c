@@ -70,6 +70,8 @@ void translate_sentence(FILE *out, const struct given *given, struct answer answ
                 4 * layouts[PROGRAM].words * rows_of(given, OLD));
     else if (answer.verdict == UISNABAR_EDITION)
         edition_sentence(out, given, answer.place);
-    else /* SIZE and WORD, of part 1 */
-        judge_sentence(out, given, (struct answer){answer.verdict, OLD, answer.place, answer.rule});
+    else { /* SIZE and WORD, of part 1 */
+        answer.part = OLD;
+        judge_sentence(out, given, answer);
+    }
 }

@@ -39,9 +39,12 @@ static const char help[] =
     "label   Is the text a label, of version 1 or 2? The sentence has its version, seed, m and n, or what the first line that\n"
     "        does not fit must be. Without FILE it is read from standard input.\n"
     "\n"
-    "Standard output has the answer's lines, as the replay program prints them, or the report; standard error one sentence\n"
-    "that says what they mean. Tables and OLD are mapped, not copied: they must not change while they are read. A file that\n"
-    "becomes shorter is noticed.\n"
+    "Standard output has the answer's six lines, as the replay program prints them, or the report; standard error one\n"
+    "sentence that says what they mean. Where a lookup is refused, expected= is the word that the memory's cell holds and\n"
+    "found= the word that the table's column has, and the sentence names the cell and the column. Both are 0 where a cell\n"
+    "that is looked up is not below M, the number of cells, which the sentence says too; and of every other answer.\n"
+    "Tables and OLD are mapped, not copied: they must not change while they are read. A file that becomes shorter is\n"
+    "noticed.\n"
     "Exit status: 0 accepted, 1 refused, 2 usage, or something could not be read or written.\n";
 
 /* the subcommands by name */

@@ -44,7 +44,8 @@ void print_paste(FILE *out, const struct given *given, struct answer answer, cha
     for (uint32_t part = PROGRAM; part < PARTS; part++)
         fprintf(out, "%s: %zu bytes, sha256 %s\n", layouts[part].part, given->part[part].len, sums[part]);
     fprintf(out, "start: pc=%ju, fp=%ju\n", (uintmax_t)given->pc, (uintmax_t)given->fp);
-    fprintf(out, "answer: %s, part=%u, place=%u, rule=%u\n", uisnabar_name(answer.verdict), answer.part, answer.place, answer.rule);
+    fprintf(out, "answer: %s, part=%u, place=%u, rule=%u, expected=%u, found=%u\n", uisnabar_name(answer.verdict), answer.part,
+            answer.place, answer.rule, answer.expected, answer.found);
     judge_sentence(out, given, answer);
     print_place(out, given, answer);
 }

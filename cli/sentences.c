@@ -61,8 +61,10 @@ static void rule_sentence(FILE *out, const struct given *given, struct answer an
     bool last = answer.place + (size_t)1 == rows_of(given, answer.part);
     while (rule->words && rule->number != answer.rule)
         rule++;
-    fprintf(out, "%s %u breaks rule %u, %s%s\n", layouts[answer.part].row, answer.place, answer.rule,
+    fprintf(out, "%s %u breaks rule %u, %s%s", layouts[answer.part].row, answer.place, answer.rule,
             rule->words ? rule->words : "unknown", last && rule->next ? "; the last row is its own next row" : "");
+    lookup_sentence(out, given, answer);
+    fputc('\n', out);
 }
 
 static void word_sentence(FILE *out, const struct given *given, struct answer answer)
