@@ -33,7 +33,8 @@ int main(void)
     if (verdict == UISNABAR_ANSWER) /* nothing was written, so there is no number to print */
         puts(uisnabar_name(verdict));
     else
-        printf("%s part %u place %u rule %u\n", uisnabar_name(verdict), number(answer + 4), number(answer + 8), number(answer + 12));
+        printf("%s part %u place %u rule %u expected %u found %u\n", uisnabar_name(verdict), number(answer + 4), number(answer + 8),
+               number(answer + 12), number(answer + 16), number(answer + 20));
     if (fflush(stdout) != 0)
         return 2;
     return verdict == UISNABAR_ACCEPTED ? 0 : 1;

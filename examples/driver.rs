@@ -17,7 +17,7 @@ extern "C" {
 }
 
 // UISNABAR_ANSWER_BYTES and UISNABAR_RECIPE_BYTES of the header
-const ANSWER_BYTES: usize = 16;
+const ANSWER_BYTES: usize = 24;
 const RECIPE_BYTES: usize = 20;
 const NAMES: [&str; 9] = ["ACCEPTED", "SIZE", "WORD", "INSTRUCTION", "START", "EXEC", "EXTENSION", "BUS", "LABEL"];
 const ACCEPTED: u32 = 0;
@@ -62,7 +62,7 @@ fn shown(answer: &Answer) -> String {
     }
     let n: Vec<u64> = answer.bytes.chunks(4).map(number).collect();
     let name = NAMES.get(answer.verdict as usize).copied().unwrap_or("unknown");
-    format!("{name} part {} place {} rule {}\n", n[1], n[2], n[3])
+    format!("{name} part {} place {} rule {} expected {} found {}\n", n[1], n[2], n[3], n[4], n[5])
 }
 
 fn label(path: &str) -> Result<(Answer, String)> {

@@ -8,16 +8,20 @@
 //! ```
 //! let mut grid = uisnabar::FRESH;
 //! let refusal = uisnabar::judge(&[], &[], 0, 0, &[], &[]).unwrap_err();
-//! assert_eq!(refusal.to_string(), "SIZE part 1 place 0 rule 0");
+//! assert_eq!(refusal.to_string(), "SIZE part 1 place 0 rule 0 expected 0 found 0");
 //! assert_eq!(uisnabar::count(&[], &[], 0, 0, &[], &[], &mut grid), Err(refusal));
 //! assert_eq!(uisnabar::report(&grid).unwrap(), "");
-//! assert_eq!(uisnabar::translate(&[0; 56]).unwrap_err().to_string(), "EDITION part 0 place 0 rule 0");
+//! assert_eq!(uisnabar::translate(&[0; 56]).unwrap_err().name(), "EDITION");
 //! let recipe = uisnabar::read_label(b"v=2\nseed=000000012fffffff\nm=10\nn=12\n").unwrap();
 //! assert_eq!((recipe.version, recipe.seed, recipe.m, recipe.n), (2, 0x1_2fff_ffff, 10, 12));
 //! ```
 
+mod calls;
+
 use std::error::Error;
 use std::fmt;
+
+use calls::{uisnabar_count, uisnabar_judge, uisnabar_label, uisnabar_report, uisnabar_translate};
 
 /// The version of the library that this crate is written for, `UISNABAR_VERSION`.
 pub const VERSION: &str = env!("CARGO_PKG_VERSION");
@@ -30,7 +34,7 @@ pub const GRID_BYTES: usize = 1080;
 /// No report is longer than this.
 pub const REPORT_BYTES: usize = 5076;
 
-const ANSWER_BYTES: usize = 16;
+const ANSWER_BYTES: usize = 24;
 const RECIPE_BYTES: usize = 20;
 const WRITTEN_BYTES: usize = 8;
 // An instruction of draft 0.5.0 and of draft 0.6.0, and how many a program may have.
@@ -60,73 +64,19 @@ pub const NAMES: [&str; 16] = [
 const ACCEPTED: u32 = 0;
 const ANSWER: u32 = 13;
 
-// As include/uisnabar.h declares them.
-extern "C" {
-    fn uisnabar_judge(
-        program: *const u8,
-        program_len: usize,
-        memory: *const u8,
-        memory_len: usize,
-        pc: u64,
-        fp: u64,
-        exec: *const u8,
-        exec_len: usize,
-        ext: *const u8,
-        ext_len: usize,
-        answer: *mut u8,
-        answer_len: usize,
-    ) -> u32;
-    fn uisnabar_count(
-        program: *const u8,
-        program_len: usize,
-        memory: *const u8,
-        memory_len: usize,
-        pc: u64,
-        fp: u64,
-        exec: *const u8,
-        exec_len: usize,
-        ext: *const u8,
-        ext_len: usize,
-        grid: *mut u8,
-        grid_len: usize,
-        answer: *mut u8,
-        answer_len: usize,
-    ) -> u32;
-    fn uisnabar_report(
-        grid: *const u8,
-        grid_len: usize,
-        text: *mut u8,
-        text_len: usize,
-        written: *mut u8,
-        written_len: usize,
-        answer: *mut u8,
-        answer_len: usize,
-    ) -> u32;
-    fn uisnabar_translate(
-        old: *const u8,
-        old_len: usize,
-        program: *mut u8,
-        program_len: usize,
-        answer: *mut u8,
-        answer_len: usize,
-    ) -> u32;
-    fn uisnabar_label(
-        text: *const u8,
-        text_len: usize,
-        answer: *mut u8,
-        answer_len: usize,
-        recipe: *mut u8,
-        recipe_len: usize,
-    ) -> u32;
-}
-
-/// Why tables, a program or a label were refused: the four numbers of docs/VERDICTS.md. The verdict is never 0.
+/// Why tables, a program or a label were refused: the six numbers of docs/VERDICTS.md. The verdict is never 0.
 #[derive(Clone, Copy, Debug, PartialEq, Eq, Hash)]
 pub struct Refusal {
     pub verdict: u32,
     pub part: u32,
     pub place: u32,
     pub rule: u32,
+    /// Of a lookup, EXEC with rule 2, 3 or 4 or EXTENSION with rule 18, 19, 20 or 21: the word that the memory's cell
+    /// holds; of five cells, of the first that differs. Where a cell that the rule looks up is out of range, and of any
+    /// other rule or verdict, nothing is said, and this and `found` are both 0; else they differ.
+    pub expected: u32,
+    /// Of the same lookup, the word that the table's column has there.
+    pub found: u32,
 }
 
 impl Refusal {
@@ -138,7 +88,8 @@ impl Refusal {
 
 impl fmt::Display for Refusal {
     fn fmt(&self, out: &mut fmt::Formatter<'_>) -> fmt::Result {
-        write!(out, "{} part {} place {} rule {}", self.name(), self.part, self.place, self.rule)
+        let Refusal { part, place, rule, expected, found, .. } = self;
+        write!(out, "{} part {part} place {place} rule {rule} expected {expected} found {found}", self.name())
     }
 }
 
@@ -168,12 +119,14 @@ fn number(bytes: &[u8]) -> u32 {
 fn outcome(verdict: u32, answer: &[u8; ANSWER_BYTES]) -> Result<(), Refusal> {
     match verdict {
         ACCEPTED => Ok(()),
-        ANSWER => Err(Refusal { verdict, part: 0, place: 0, rule: 0 }),
+        ANSWER => Err(Refusal { verdict, part: 0, place: 0, rule: 0, expected: 0, found: 0 }),
         _ => Err(Refusal {
             verdict,
             part: number(&answer[4..8]),
             place: number(&answer[8..12]),
             rule: number(&answer[12..16]),
+            expected: number(&answer[16..20]),
+            found: number(&answer[20..24]),
         }),
     }
 }
@@ -299,8 +252,10 @@ mod tests {
 
     #[test]
     fn the_numbers_are_little_endian() {
-        let answer = [5, 0, 0, 0, 3, 0, 0, 0, 1, 2, 3, 4, 16, 0, 0, 0];
-        assert_eq!(outcome(5, &answer), Err(Refusal { verdict: 5, part: 3, place: 0x0403_0201, rule: 16 }));
+        let answer = [5, 0, 0, 0, 3, 0, 0, 0, 1, 2, 3, 4, 2, 0, 0, 0, 5, 6, 7, 8, 9, 10, 11, 12];
+        let wanted =
+            Refusal { verdict: 5, part: 3, place: 0x0403_0201, rule: 2, expected: 0x0807_0605, found: 0x0c0b_0a09 };
+        assert_eq!(outcome(5, &answer), Err(wanted));
     }
 
     #[test]

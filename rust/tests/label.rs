@@ -12,7 +12,7 @@ fn refused(text: &str) -> String {
 }
 
 fn place(place: usize) -> String {
-    format!("LABEL part 0 place {place} rule 0")
+    format!("LABEL part 0 place {place} rule 0 expected 0 found 0")
 }
 
 #[test]

@@ -39,10 +39,11 @@ fn every_kind_is_translated() {
 #[test]
 fn refusals_name_part_and_place() {
     for (instruction, place, word) in [(0, 3, 2), (1, 10, 1), (2, 3, 1), (3, 12, 0), (4, 8, 0), (5, 13, 1)] {
-        assert_eq!(refused(instruction, place, word), format!("EDITION part 0 place {instruction} rule 0"));
+        let wanted = format!("EDITION part 0 place {instruction} rule 0 expected 0 found 0");
+        assert_eq!(refused(instruction, place, word), wanted);
     }
     for (instruction, place) in [(0, 0), (3, 7), (5, 13)] {
-        let wanted = format!("WORD part 1 place {} rule 0", 14 * instruction + place);
+        let wanted = format!("WORD part 1 place {} rule 0 expected 0 found 0", 14 * instruction + place);
         assert_eq!(refused(instruction, place, P), wanted);
         assert_eq!(refused(instruction, place, u32::MAX), wanted);
     }
@@ -53,7 +54,7 @@ fn lengths_of_any_kind_are_answered() {
     let add = bytes(&PAIRS[0].0);
     for len in [0, 1, 48, 55, 57, 111] {
         let refusal = translate(&old()[..len]).unwrap_err();
-        assert_eq!(refusal.to_string(), "SIZE part 1 place 0 rule 0", "{len} bytes");
+        assert_eq!(refusal.to_string(), "SIZE part 1 place 0 rule 0 expected 0 found 0", "{len} bytes");
     }
     assert_eq!(translate(&add.repeat(1 << 20)), Ok(bytes(&PAIRS[0].1).repeat(1 << 20)));
     assert_eq!(translate(&add.repeat((1 << 20) + 1)).unwrap_err().name(), "SIZE");
