@@ -3,6 +3,18 @@
 # readable FILE: a file, and no folder, that can be read
 readable() { [ -f "$1" ] && [ -r "$1" ]; }
 
+# differing FILE ANSWER: how the answer that a file has and this one differ; they do
+differing() {
+    local recorded now
+    recorded=$(named_in "$1")
+    now=$(named "$2")
+    if [ "$recorded" = "$now" ]; then
+        echo "the same answer in other lines, $now: before 3.0.0 there was no expected= and no found= (CHANGELOG.md)"
+    else
+        echo "another answer: recorded $recorded, now $now"
+    fi
+}
+
 # compare LABEL OUT: OUT becomes one line, 'same', or 'differs' or 'trouble' and what is to be said
 compare() {
     local name=${1%.label} answer recorded tables said=''
@@ -13,8 +25,7 @@ compare() {
     elif ! { answer=$(replayed "$1") && tables=$(run table <"$1" | sha256sum); }; then
         said='trouble a program failed'
     else
-        printf '%s' "${answer%.}" | cmp -s - "$name.answer" ||
-            said="another answer: recorded $(named_in "$name.answer"), now $(named "$answer")"
+        printf '%s' "${answer%.}" | cmp -s - "$name.answer" || said=$(differing "$name.answer" "$answer")
         recorded=$(tr -d '\0' <"$name.tables")
         [ "$tables" = "$recorded" ] || said+="${said:+; }other tables: recorded ${recorded%% *}, now ${tables%% *}"
         said=${said:+differs $said}
