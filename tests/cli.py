@@ -1,8 +1,8 @@
 """The command `uisnabar`, run: `python3 tests/cli.py target/cli/uisnabar`, or an emulator's words before it.
 
 Answers are computed by tests/oracle.py, sentences taken from docs/VERDICTS.md, sums from Python's own SHA-256. It works
-in a folder of its own. Counts and reports are in tests/cli_forms.py, translations in tests/cli_translate.py, labels in
-tests/cli_labels.py."""
+in a folder of its own. Lookups are in tests/cli_lookups.py, counts and reports in tests/cli_forms.py, translations in
+tests/cli_translate.py, labels in tests/cli_labels.py."""
 import os
 import pathlib
 import re
@@ -14,11 +14,14 @@ sys.dont_write_bytecode = True
 import cli_cases
 import cli_forms
 import cli_labels
+import cli_lookups
 import cli_run
 import cli_translate
 import oracle
 import shelf
+from cli_lookups import spoiled
 from cli_run import COMMAND, FILES, PATH, ROOT, check, could_not, run, unwritable, write
+from oracle import six
 from trials_parts import each_kind
 
 
@@ -30,7 +33,7 @@ def judged():
     for name, answer, parts, start in cli_cases.cases():
         write(parts)
         words = ["judge", "--pc", str(start[0]), "--fp", str(start[1]), *FILES]
-        lines, said = shelf.four_lines(answer), cli_cases.sentence(answer, parts, start) + "\n"
+        lines, said = shelf.six_lines(answer), cli_cases.sentence(answer, parts, start) + "\n"
         check(name, run(*words), (int(answer[0] > 0), lines, said))
         wanted = lines + cli_cases.paste(version, answer, parts, start).encode()
         check(name + ", --paste", run(*words, "--paste"), (int(answer[0] > 0), wanted, said))
@@ -41,14 +44,14 @@ def tables():
     _, whole = shelf.answer_and_tables((ROOT / "shelf/seed-0.label").read_bytes())
     sizes = (len(whole) - 43008, 4096, 8192, 30720)
     for name, data, status, answer in (
-            ("as written", whole, 0, (0, 0, 0, 0)), ("value B of row 17", whole[:10664] + b"\1" + whole[10665:], 1, (5, 3, 17, 3)),
-            ("a byte short", whole[1:], 1, (1, 1, 0, 0)), ("no program", whole[sizes[0]:], 1, (1, 1, 0, 0)),
+            ("as written", whole, 0, six(0)), ("value B of row 17", spoiled(whole), 1, six(5, 3, 17, 3, 335903614, 335903489)),
+            ("a byte short", whole[1:], 1, six(1, 1)), ("no program", whole[sizes[0]:], 1, six(1, 1)),
             ("an instruction twice", whole[:48] + whole, 1, None)):
         pathlib.Path("tables").write_bytes(data)
         parts = [data[:len(data) - 43008], data[-43008:-38912], data[-38912:-30720], data[-30720:]]
         answer = answer or oracle.judge(parts[0], parts[1], 0, 0, *parts[2:])
         said = cli_cases.sentence(answer, parts, (0, 0)) + "\n"
-        check("tables, " + name, run("judge", "tables"), (status, shelf.four_lines(answer), said))
+        check("tables, " + name, run("judge", "tables"), (status, shelf.six_lines(answer), said))
     pathlib.Path("tables").write_bytes(whole[-43007:])
     could_not("tables, too short", run("judge", "tables"), "43007 bytes")
     pathlib.Path("tables").write_bytes(b"")
@@ -66,9 +69,9 @@ def numbers():
     could_not("--pc without a number", run("judge", *FILES, "--pc"), "--pc takes a decimal number")
     fp = start[1]
     for number in (2**32 + fp, 2**63 + fp, 2**64 - 1):
-        answer = (4, 0, 0, 0)
+        answer = six(4)
         said = cli_cases.sentence(answer, parts, (0, number)) + "\n"
-        check(f"--fp {number}", run("judge", "--fp", str(number), *FILES), (1, shelf.four_lines(answer), said))
+        check(f"--fp {number}", run("judge", "--fp", str(number), *FILES), (1, shelf.six_lines(answer), said))
     check("zeros before a number", run("judge", *FILES, "--fp", f"000{fp}")[0], 0)
     check("no start", run("judge", *FILES)[0], 1)
 
@@ -98,7 +101,7 @@ def files():
             could_not(f"{path} for {FILES[place]}", run(*given, *FILES[:place], path, *FILES[place + 1:]), about)
         pathlib.Path("empty").write_bytes(b"")
         named = run(*given, "--paste", *FILES[:place], "empty", *FILES[place + 1:])
-        check(f"empty {FILES[place]}", (named[0], named[1][:27]), (1, shelf.four_lines((1, place + 1, 0, 0))[:27]))
+        check(f"empty {FILES[place]}", (named[0], named[1].startswith(shelf.six_lines((1, place + 1)))), (1, True))
     for name in ("a b", "-pc", "$(touch made)", "'; touch made #", '"', "new\nline", "*"):
         os.rename("program", name)
         check(f"a file named {name!r}", run(*given, "--paste", "--", name, *FILES[1:])[0], 0)
@@ -106,9 +109,9 @@ def files():
     check("no shell was asked", os.path.exists("made"), False)
     with open("memory", "ab") as memory:
         memory.truncate(4 * 2**24)
-    accepted = (0, 0, 0, 0)
+    accepted = six(0)
     said = cli_cases.sentence(accepted, parts, start) + "\n"
-    check("a memory of 2^24 words", run(*given, *FILES), (0, shelf.four_lines(accepted), said))
+    check("a memory of 2^24 words", run(*given, *FILES), (0, shelf.six_lines(accepted), said))
 
 
 def streams():
@@ -161,7 +164,7 @@ def sums():
 def pages():
     """The output that README.md and docs/DISPUTE.md show is what is printed."""
     _, whole = shelf.answer_and_tables((ROOT / "shelf/seed-0.label").read_bytes())
-    pathlib.Path("tables").write_bytes(whole[:10664] + b"\1" + whole[10665:])
+    pathlib.Path("tables").write_bytes(spoiled(whole))
     for page, words in (("README.md", ["judge", "tables"]), ("docs/DISPUTE.md", ["judge", "--paste", "tables"])):
         _, out, said = run(*words)
         shown = "```\n" + out.decode() + (said if "--paste" not in words else "") + "```\n"
@@ -174,8 +177,8 @@ def main():
         os.chdir(folder)
         os.mkdir("folder")
         pathlib.Path("folder/read").write_bytes(b"")
-        for group in (judged, tables, numbers, usage, files, streams, closed, sums, pages, *cli_labels.GROUPS, *cli_forms.GROUPS,
-                      *cli_translate.GROUPS):
+        for group in (judged, tables, numbers, usage, files, streams, closed, sums, pages, *cli_lookups.GROUPS, *cli_labels.GROUPS,
+                      *cli_forms.GROUPS, *cli_translate.GROUPS):
             group()
         os.chdir(ROOT)
     print("\n".join(cli_run.faults + [f"{cli_run.tried} tried, {len(cli_run.faults)} faults"]))

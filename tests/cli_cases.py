@@ -15,6 +15,7 @@ NAMES = "ACCEPTED SIZE WORD INSTRUCTION START EXEC EXTENSION BUS LABEL".split()
 ROW = (None, "instruction", "memory cell", "execution row", "extension row", "instruction")
 WORDS = (*trials_parts.WORDS, 14)  # the fifth layout is draft 0.5.0's, of tests/cli_translate.py
 LAYOUTS = cli_page.table("Layouts")
+ENDINGS = [words for _, _, words in cli_page.table("Expected and found")]  # in range, one cell that isn't, five
 RULES = {EXEC: cli_page.rules("Execution rules"), EXT: cli_page.rules("Extension rules")}
 ELEMENTS = {EXT: 10}  # the column from which a row has elements of five words
 
@@ -26,7 +27,7 @@ class Chosen:
         self.cases = {}
 
     def judge(self, name, wanted, parts, start):
-        verdict, part, place, rule = wanted
+        verdict, part, place, rule = wanted[:4]
         kind = verdict, part, rule, place if verdict == 2 or place > 253 else 0
         if kind not in self.cases:
             assert oracle.judge(parts[0], parts[1], *start, *parts[2:]) == wanted, name
@@ -42,7 +43,7 @@ def cases():
     for name, wanted, given in bad:
         chosen.judge(name, wanted, given, start)
     for wrong in trials_input.starts(*start):
-        chosen.cases[wrong] = f"start {wrong}", (4, 0, 0, 0), parts, wrong
+        chosen.cases[wrong] = f"start {wrong}", oracle.six(4), parts, wrong
     trials_rules.cases(chosen, parts, start)
     trials_judge.buses(chosen, parts, start)
     trials_judge.late_push(chosen)
@@ -71,15 +72,33 @@ def word_sentence(part, place, parts):
     return f"word {place} of the {LAYOUTS[part - 1][1]}, {where}, is {word}: a word must be below p = {oracle.P}"
 
 
-def rule_sentence(part, place, rule, parts):
+def ending(answer, parts):
+    """How the sentence of a lookup ends, by the page's words: those in capitals stand for numbers and names."""
+    _, part, place, rule, expected, found = answer
+    columns_read = RULES[part][rule][2].split("; " + cli_page.MEMORY)[0].split(", ")
+    values = dict(zip(words(part), oracle.words_of(parts[part - 1])[WORDS[part - 1] * place:]))
+    first, cells = values[columns_read[0]], oracle.words_of(parts[MEMORY - 1])
+    names = [name for name in values if name.partition("[")[0] == columns_read[1]]
+    if expected == found:
+        told = {"FIRST": first, "LAST": first + 4, "CELL": max(first, len(cells)), "CELLS": len(cells)}
+    else:
+        at = next(at for at, name in enumerate(names) if values[name] != cells[first + at])
+        told = {"CELL": first + at, "EXPECTED": expected, "COLUMN": names[at], "FOUND": found}
+    words_said = ENDINGS[(1 if len(names) == 1 else 2) if expected == found else 0]
+    return "; " + re.sub("[A-Z]{4,}", lambda name: str(told[name[0]]), words_said)
+
+
+def rule_sentence(answer, parts):
+    _, part, place, rule, _, _ = answer
     _, plain, read, _ = RULES[part][rule]
     last = place + 1 == len(parts[part - 1]) // (4 * WORDS[part - 1]) and cli_page.NEXT in read
-    return f"{ROW[part]} {place} breaks rule {rule}, {plain}" + "; the last row is its own next row" * last
+    said = f"{ROW[part]} {place} breaks rule {rule}, {plain}" + "; the last row is its own next row" * last
+    return said + (ending(answer, parts) if cli_page.MEMORY in read else "")
 
 
 def sentence(answer, parts, start):
     """What standard error must have, without its LF."""
-    verdict, part, place, rule = answer
+    verdict, part, place = answer[:3]
     if verdict == 0:
         said = "the tables satisfy the constraints of leanVM draft 0.6.0"
     elif verdict == 1:
@@ -95,7 +114,7 @@ def sentence(answer, parts, start):
         plain = cli_page.table("The bus")[2][2]
         said = re.search(rf"part {part}: an (.+?)(?:;|$)", plain)[1].replace(" row ", f" row {place} ")
     else:
-        said = rule_sentence(part, place, rule, parts)
+        said = rule_sentence(answer, parts)
     return f"{NAMES[verdict]}: {said}"
 
 
@@ -106,7 +125,7 @@ def row_line(part, row, parts):
 
 def rows(answer, parts):
     """The lines of the row that an answer names, of its successor and of its instruction."""
-    verdict, part, place, _ = answer
+    verdict, part, place = answer[:3]
     if verdict < 2:
         return []
     part = part or EXEC
@@ -126,6 +145,6 @@ def paste(version, answer, parts, start):
     lines = [version]
     for (_, name, _, _), part in zip(LAYOUTS, parts):
         lines.append(f"{name}: {len(part)} bytes, sha256 {hashlib.sha256(part).hexdigest()}")
-    lines += [f"start: pc={start[0]}, fp={start[1]}", "answer: {}, part={}, place={}, rule={}".format(NAMES[answer[0]], *answer[1:]),
-              sentence(answer, parts, start)]
+    numbers = "part={}, place={}, rule={}, expected={}, found={}".format(*answer[1:])
+    lines += [f"start: pc={start[0]}, fp={start[1]}", f"answer: {NAMES[answer[0]]}, {numbers}", sentence(answer, parts, start)]
     return "".join(line + "\n" for line in lines + rows(answer, parts))

@@ -10,13 +10,14 @@ import cli_cases
 import oracle_forms
 import shelf
 from cli_run import COMMAND, FILES, ROOT, as_nobody, check, could_not, limited, run, unwritable, write
+from oracle import six
 from oracle_forms import FORMS, FRESH, LIMIT, in_last
 from trials_parts import each_kind, each_mode
 
 GRID, NEXT = pathlib.Path("grid"), pathlib.Path(".grid.counting")
 FULL = (2**64 - 1,) * len(FORMS)
 POSSIBLE = [name for name in FORMS if name in oracle_forms.possible()]
-ACCEPTED, OVER = (0, 0, 0, 0), (14, 0, 0, 0)
+ACCEPTED, OVER = six(0), six(14)
 
 
 def put(grid):
@@ -49,7 +50,7 @@ def counted(name, parts, start, grid):
     """One count beside tests/oracle_forms.py: answer, sentence, status, grid. A refusal leaves the grid, or makes none."""
     put(grid)
     answer, after = oracle_forms.count(*parts[:2], *start, *parts[2:], grid or FRESH)
-    wanted = int(answer[0] > 0), shelf.four_lines(answer), said_of(answer, parts, start, after)
+    wanted = int(answer[0] > 0), shelf.six_lines(answer), said_of(answer, parts, start, after)
     check(name, run(*words_of(start)), wanted)
     check(name + ", the grid", left(), (after if answer == ACCEPTED else grid, False))
     return after
@@ -91,7 +92,7 @@ def tables():
     put(None)
     for total, words in ((256, ["grid", "tables"]), (512, ["--pc", "0", "grid", "--", "tables"])):
         found = run("count", *words)
-        check(f"count {words}", found, (0, shelf.four_lines(ACCEPTED), said_of(ACCEPTED, (0, 0, bytes(8192)), 0, (total,))))
+        check(f"count {words}", found, (0, shelf.six_lines(ACCEPTED), said_of(ACCEPTED, (0, 0, bytes(8192)), 0, (total,))))
     before = left()
     check("count, another start", run("count", "grid", "--pc", "1", "tables")[0], 1)
     pathlib.Path("tables").write_bytes(b"")
@@ -225,7 +226,7 @@ def replaced(other):
 
 def waits():
     """A count that waited sees the grid as it then is; tables that become shorter meanwhile are not counted."""
-    accepted = 0, shelf.four_lines(ACCEPTED)
+    accepted = 0, shelf.six_lines(ACCEPTED)
     for name, meanwhile, wanted, total in (("replaced", replaced, accepted, 1256), ("left", lambda _: NEXT.unlink(), accepted, 257),
                                            ("killed", lambda _: None, accepted, 257),
                                            ("tables became shorter", lambda _: os.truncate("exec", 0), (2, b""), 1)):

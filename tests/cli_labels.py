@@ -5,6 +5,7 @@ import cli_page
 import oracle
 import shelf
 from cli_run import ROOT, check, could_not, run
+from oracle import six
 
 LINES = [words for _, words in cli_page.table("Versions of a label")]
 VERSIONS = (1, 2)
@@ -18,7 +19,7 @@ BAD = ((b"\n", b"\r\n", 3), (b"v=", b"V=", 0), (b"v=", b" v=", 0), (b"v=", b"v= 
 
 def sentence(text, answer, recipe):
     """What standard error must have."""
-    verdict, _, place, _ = answer
+    verdict, _, place = answer[:3]
     if verdict == 0:
         return "ACCEPTED: a label of version {}, seed {:016x}, m {} and n {}\n".format(*recipe)
     line = text[:place].count(b"\n")
@@ -31,8 +32,8 @@ def sentence(text, answer, recipe):
 def told(text):
     """Status, lines and sentence of a text."""
     numbers = oracle.read_label(text)
-    answer, recipe = numbers[:4], numbers[4:]
-    return int(answer[0] > 0), shelf.four_lines(answer), sentence(text, answer, recipe)
+    answer, recipe = numbers[:6], numbers[6:]
+    return int(answer[0] > 0), shelf.six_lines(answer), sentence(text, answer, recipe)
 
 
 def longest(version):
@@ -53,7 +54,7 @@ def both():
         for seed, m, n in ((0, 10, 1), (2**64 - 1, 29, 124), (0x0123456789ABCDEF, 19, 9), (1 << 32, 20, 99)):
             text = b"v=%d\nseed=%016x\nm=%d\nn=%d\n" % (version, seed, m, n)
             said = f"ACCEPTED: a label of version {version}, seed {seed:016x}, m {m} and n {n}\n"
-            check(f"{text}", run("label", stdin=text), (0, shelf.four_lines((0, 0, 0, 0)), said))
+            check(f"{text}", run("label", stdin=text), (0, shelf.six_lines((0,)), said))
 
 
 def cut():
@@ -61,17 +62,17 @@ def cut():
     for version in VERSIONS:
         for place in range(len(longest(version))):
             text = longest(version)[:place]
-            answer = (8, 0, place, 0)
-            check(f"version {version}, {place} bytes", run("label", stdin=text), (1, shelf.four_lines(answer), sentence(text, answer, ())))
+            answer = six(8, 0, place)
+            check(f"version {version}, {place} bytes", run("label", stdin=text), (1, shelf.six_lines(answer), sentence(text, answer, ())))
 
 
 def spoiled():
     """A byte that fits no label, in each line and behind the last."""
     for version in VERSIONS:
         for old, new, place in BAD:
-            text, answer = longest(version).replace(old, new), (8, 0, place, 0)
-            check(f"{text}", run("label", stdin=text), (1, shelf.four_lines(answer), sentence(text, answer, ())))
-            check(f"{text}, by the second implementation", oracle.read_label(text)[:4], answer)
+            text, answer = longest(version).replace(old, new), six(8, 0, place)
+            check(f"{text}", run("label", stdin=text), (1, shelf.six_lines(answer), sentence(text, answer, ())))
+            check(f"{text}, by the second implementation", oracle.read_label(text)[:6], answer)
 
 
 def versions():
@@ -83,7 +84,7 @@ def versions():
 
 def no_labels():
     """Endless input, and what cannot be read."""
-    check("endless", run("label", "/dev/zero")[:2], (1, shelf.four_lines((8, 0, 0, 0))))
+    check("endless", run("label", "/dev/zero")[:2], (1, shelf.six_lines((8,))))
     could_not("no label", run("label", "missing"), "missing: No such file")
     could_not("a folder for a label", run("label", "."), ".: Is a directory")
     could_not("two labels", run("label", "a", "b"), "one file at most")

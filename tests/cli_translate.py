@@ -60,7 +60,7 @@ def said_of(answer, old, reasons):
 
 def translated(name, old, new, answer=(0, 0, 0, 0), reasons=()):
     """The program into no file and over one; a refusal leaves either as it is."""
-    wanted = int(answer[0] > 0), shelf.four_lines(answer), said_of(answer, old, reasons)
+    wanted = int(answer[0] > 0), shelf.six_lines(answer), said_of(answer, old, reasons)
     for held in (None, HELD):
         put(old, held)
         check(f"translate, {name}, beside {held}", run("translate", "old", "new"), wanted)
@@ -113,7 +113,7 @@ def sizes():
         os.truncate(OLD, length)
         found = run("translate", "old", "new", **memory(2**26))
         said = f"SIZE: the program of draft 0.5.0 has {length} bytes, and must be 1 to 1048576 instructions of 56 bytes\n"
-        check(f"{length} bytes", (found, left()), ((1, shelf.four_lines((1, 1, 0, 0)), said), (HELD, False)))
+        check(f"{length} bytes", (found, left()), ((1, shelf.six_lines((1, 1, 0, 0)), said), (HELD, False)))
 
 
 def in_place():
@@ -211,7 +211,7 @@ def judged():
     check("a program of three kinds", run("translate", "old", "new")[0], 0)
     answer, steps, groups = oracle.table(NEW.read_bytes(), cells, 0, 0, 32 * 256, 120 * 256)
     write((NEW.read_bytes(), cells, steps or b"", groups or b""))
-    check("its tables", (answer, run("judge", *FILES)[0]), ((0, 0, 0, 0), 0))
+    check("its tables", (answer[0], run("judge", *FILES)[0]), (0, 0))
 
 
 def page():

@@ -86,14 +86,14 @@ driver() {
     archive uisnabar
     program table
     compile "$out" -Iinclude examples/driver.c target/staticlib/libuisnabar.a &&
-        [ "$(run table <shelf/seed-0.label | emulated "$out")" = "ACCEPTED part 0 place 0 rule 0" ] &&
-        [ "$(run table <shelf/seed-0.label | head -c -1 | { emulated "$out" || true; })" = "SIZE part 1 place 0 rule 0" ]
+        [ "$(run table <shelf/seed-0.label | emulated "$out")" = "ACCEPTED part 0 place 0 rule 0 expected 0 found 0" ] &&
+        [ "$(run table <shelf/seed-0.label | head -c -1 | { emulated "$out" || true; })" = "SIZE part 1 place 0 rule 0 expected 0 found 0" ]
 }
 
 # rust_driver: the same from Rust, on the machine that the archive links on
 rust_driver() {
     rustc -O -L target/staticlib -l static=uisnabar -o target/c/rust-driver examples/driver.rs &&
-        [ "$(run table <shelf/seed-0.label | target/c/rust-driver)" = "ACCEPTED part 0 place 0 rule 0" ] &&
+        [ "$(run table <shelf/seed-0.label | target/c/rust-driver)" = "ACCEPTED part 0 place 0 rule 0 expected 0 found 0" ] &&
         [ "$(target/c/rust-driver shelf/upper-half-all.label | tail -n 1)" = "version 1 seed ffffffff2fffffff m 10 n 124" ]
 }
 
@@ -104,7 +104,8 @@ header() {
 
 # endless input is ended by the program itself, which reads no more than a label and a byte
 endless() {
-    { yes || true; } | { timeout 20 ./bench replay || [ $? = 1 ]; } | cmp - <(printf 'verdict=8\npart=0\nplace=0\nrule=0\n')
+    { yes || true; } | { timeout 20 ./bench replay || [ $? = 1 ]; } |
+        cmp - <(printf 'verdict=8\npart=0\nplace=0\nrule=0\nexpected=0\nfound=0\n')
 }
 
 # the command, under the emulator where programs need it

@@ -40,6 +40,8 @@ figures() {
     compile "$work/figures-program" -Iinclude tests/customers/figures.c target/staticlib/libuisnabar.a &&
         emulated "$work/figures-program" >"$work/figures" || fault "the program that reads the header's figures failed"
     equal "lengths that the library takes" "$(grep '^length\|^label\|^longest\|^room\|^instructions' "$work/figures")" "$(lengths)"
+    # document 02, M-103 and M-104
+    equal "the lengths of an answer and of a recipe" "$(figure answer) $(figure recipe)" '24 20'
     for number in "${!verdicts[@]}"; do
         echo "verdict $number ${verdicts[number]}"
     done | cmp -s - <(grep ^verdict "$work/figures") || fault "the header has other verdicts than tools/answers.sh"
@@ -61,30 +63,63 @@ figures() {
         fault "docs/DISPUTE.md shows another version"
 }
 
-# a driver that is told ANSWER says so, and doesn't read the buffer: each example with a buffer one byte too long
-answer_named() {
-    local spoiled=$work/spoiled long=$(($(figure answer) + 1))
-    mkdir "$spoiled"
-    ./bench table shelf/seed-0.label >"$work/tables"
-    sed "s/^#define UISNABAR_ANSWER_BYTES.*/#define UISNABAR_ANSWER_BYTES $long/" include/uisnabar.h >"$spoiled/uisnabar.h"
-    if compile "$work/spoiled-driver" "-I$spoiled" examples/driver.c target/staticlib/libuisnabar.a; then
-        gives 1 of "$work/tables" emulated "$work/spoiled-driver"
-        said_file <(echo ANSWER)
-    else
+# spoiled_c BYTES: the example in C with an answer of so many bytes, of which it must read none: so no warning of too few
+spoiled_c() {
+    sed "s/^#define UISNABAR_ANSWER_BYTES.*/#define UISNABAR_ANSWER_BYTES $1/" include/uisnabar.h >"$work/spoiled/uisnabar.h"
+    compile "$work/spoiled-driver" -Wno-array-bounds "-I$work/spoiled" examples/driver.c target/staticlib/libuisnabar.a ||
         fault "examples/driver.c cannot be compiled"
-    fi
+    gives 1 of "$work/tables" emulated "$work/spoiled-driver"
+    said_file <(echo ANSWER)
+}
+
+# spoiled_rust NAME BYTES: the same in Rust, of an answer or a recipe, and of a label
+spoiled_rust() {
+    sed "s/^const $1: usize = .*/const $1: usize = $2;/" examples/driver.rs >"$work/spoiled/driver.rs"
+    gives 0 rustc -O -L target/staticlib -l static=uisnabar -o "$work/spoiled-rust" "$work/spoiled/driver.rs"
+    gives 1 "$work/spoiled-rust" shelf/seed-0.label
+    said_file <(echo ANSWER)
+}
+
+# a driver that is told ANSWER says so, and doesn't read the buffer: with none, with that of 2.0.0, one byte too short
+# and one too long
+answer_named() {
+    local bytes
+    mkdir "$work/spoiled"
+    ./bench table shelf/seed-0.label >"$work/tables"
+    for bytes in 0 16 23 25; do
+        spoiled_c "$bytes"
+    done
     links_rust || return 0
-    sed "s/^const ANSWER_BYTES: usize = .*/const ANSWER_BYTES: usize = $long;/" examples/driver.rs >"$spoiled/driver.rs"
-    gives 0 rustc -O -L target/staticlib -l static=uisnabar -o "$work/spoiled-rust" "$spoiled/driver.rs"
-    gives 1 of "$work/tables" "$work/spoiled-rust"
-    said_file <(echo ANSWER)
-    gives 1 "$work/spoiled-rust" shelf/seed-0.label
-    said_file <(echo ANSWER)
-    # the recipe's length before 2.0.0
-    sed "s/^const RECIPE_BYTES: usize = .*/const RECIPE_BYTES: usize = 16;/" examples/driver.rs >"$spoiled/driver.rs"
-    gives 0 rustc -O -L target/staticlib -l static=uisnabar -o "$work/spoiled-rust" "$spoiled/driver.rs"
-    gives 1 "$work/spoiled-rust" shelf/seed-0.label
-    said_file <(echo ANSWER)
+    for bytes in 0 16 23 25; do
+        spoiled_rust ANSWER_BYTES "$bytes"
+        gives 1 of "$work/tables" "$work/spoiled-rust"
+        said_file <(echo ANSWER)
+    done
+    # the recipe's length before 2.0.0, and the answer's now
+    spoiled_rust RECIPE_BYTES 16
+    spoiled_rust RECIPE_BYTES 24
+}
+
+# spoil TABLES: the tables of shelf/seed-0.label with another byte in value B of execution row 17, README.md's example
+spoil() { head -c 10664 "$1" && printf '\1' && tail -c +10666 "$1"; }
+
+# what a driver reads of a refused lookup; the examples print it
+lookups() {
+    local told='EXEC part 3 place 17 rule 3 expected 335903614 found 335903489'
+    compile "$work/lookups-program" -Iinclude tests/customers/lookups.c target/staticlib/libuisnabar.a ||
+        fault "tests/customers/lookups.c cannot be compiled"
+    gives 0 emulated "$work/lookups-program"
+    said ' tried, 0 faults'
+    ./bench table shelf/seed-0.label >"$work/tables"
+    spoil "$work/tables" >"$work/spoiled-tables"
+    compile "$work/lookups-driver" -Iinclude examples/driver.c target/staticlib/libuisnabar.a ||
+        fault "examples/driver.c cannot be compiled"
+    gives 1 of "$work/spoiled-tables" emulated "$work/lookups-driver"
+    said_file <(echo "$told")
+    links_rust || return 0
+    gives 0 rustc -O -L target/staticlib -l static=uisnabar -o "$work/lookups-rust" examples/driver.rs
+    gives 1 of "$work/spoiled-tables" "$work/lookups-rust"
+    said_file <(echo "$told")
 }
 
 # no exported function uses more stack than the header says
@@ -113,6 +148,15 @@ reads() {
     complained 'line 1 must be v=1 or v=2 (versions 1 and 2 are known)'
 }
 
+# finds PREFIX: the command there says what a refused lookup was of
+finds() {
+    native "$1/bin/uisnabar-table" <"$1/share/uisnabar/shelf/seed-0.label" >"$work/tables" || fault "uisnabar-table failed: $1"
+    spoil "$work/tables" >"$work/spoiled-tables"
+    gives 1 emulated "$1/bin/uisnabar" judge "$work/spoiled-tables"
+    said_file <(printf '%s\n' verdict=5 part=3 place=17 rule=3 expected=335903614 found=335903489)
+    complained 'value B must be the cell at address B; cell 0 holds 335903614, value B is 335903489'
+}
+
 # translates PREFIX: the command there writes a MUL of draft 0.5.0 by fp, and a refused program leaves what was written
 translates() {
     small 1 2 3 0 0 1 0 1 0 0 0 0 0 0 >"$work/old"
@@ -126,7 +170,7 @@ translates() {
 }
 
 # holds_tree PREFIX: a driver compiled by pkg-config judges; the programs answer the shelf, and the command counts its
-# forms, translates and reads labels; all as in the repository
+# forms, says what was found, translates and reads labels; all as in the repository
 holds_tree() {
     local doc=$1/share/doc/uisnabar shelf=$1/share/uisnabar/shelf flags label
     flags=$(PKG_CONFIG_PATH=$1/lib/pkgconfig pkg-config --cflags --libs uisnabar) || fault "pkg-config knows no uisnabar"
@@ -144,6 +188,7 @@ holds_tree() {
     done
     gives 0 emulated "$1/bin/uisnabar" report "$work/tree-grid"
     said_file "$work/report"
+    finds "$1"
     translates "$1"
     reads "$1"
     for label in VERDICTS.md CHANGELOG.md driver.rs; do

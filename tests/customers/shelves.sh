@@ -47,6 +47,27 @@ shelf_faults() {
     said '7 labels, 3 differ, 3 not compared'
 }
 
+# records of before 3.0.0, of four lines, are told from other answers; CHANGELOG.md's loop makes them new, once and twice
+shelf_old() {
+    local folder name kind loop try
+    folder=$(spaced old)
+    loop=$(sed -n '/^    for answer in DIR/,/^    done$/p' CHANGELOG.md)
+    [ -n "$loop" ] || fault "CHANGELOG.md has no loop over a folder's answers"
+    for name in seed-0 refused-n-125; do
+        for kind in label answer tables; do
+            grep -v '^expected=\|^found=' "shelf/$name.$kind" >"$folder/$name.$kind"
+        done
+    done
+    gives 1 ./bench shelf "$folder"
+    said 'seed-0: the same answer in other lines, ACCEPTED: before 3.0.0 there was no expected= and no found='
+    said 'refused-n-125: the same answer in other lines, LABEL place 35: before 3.0.0'
+    said '2 labels, 2 differ, 0 not compared'
+    for try in 1 2; do
+        (cd "$folder/.." && eval "${loop//DIR/old}")
+        gives 0 ./bench shelf "$folder"
+    done
+}
+
 # the best of five tries: under a second on an idle machine, and five are left to one with other work
 shelf_time() {
     local try began took best=999999999
