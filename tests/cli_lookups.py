@@ -1,5 +1,6 @@
-"""Refused lookups, for tests/cli.py: the numbers and the words of each are written out here, by hand from document 02's
-M-104; what the rule must be is docs/VERDICTS.md's. A cell or a word or two of accepted tables are changed."""
+"""Refused lookups, for tests/cli.py: the numbers of each are written out here, by hand from document 02's M-104, and how
+the sentence ends, which is what docs/VERDICTS.md has. A cell, or some words, of accepted tables are changed."""
+import itertools
 import pathlib
 
 import cli_cases
@@ -16,6 +17,7 @@ ONE = ((EXEC, 2, ADDR_A, VALUE_A, "value A"), (EXEC, 3, ADDR_B, VALUE_B, "value 
        (EXT, 18, IDX_A, V_A_BASE, "vA base"))
 FIVE = ((EXT, 19, IDX_A, V_A, "vA"), (EXT, 20, IDX_B, V_B, "vB"), (EXT, 21, IDX_R, RES, "res"))
 VERDICT, ROWS = {EXEC: 5, EXT: 6}, (0, 3, 255)
+FAR = ((256, 256), (256, 257), (256, 2**30), (256, P - 1), (1024, 1024), (1024, P - 1))  # how many cells there are, and one not below
 
 
 def spoiled(tables):
@@ -32,6 +34,7 @@ def refused(name, parts, start, answer, ending):
     given = ["--pc", str(start[0]), "--fp", str(start[1]), *FILES]
     write(parts)
     pathlib.Path("none").unlink(missing_ok=True)
+    check(f"{name}, by the page", cli_cases.ending(answer, parts), f"; {ending}")
     check(name, run("judge", *given), (1, lines.encode(), said))
     check(f"{name}, count", (*run("count", "none", *given), pathlib.Path("none").exists()), (1, lines.encode(), said, False))
     status, out, told = run("judge", "--paste", *given)
@@ -91,15 +94,13 @@ def based(parts, rule, first):
 
 def far():
     """A cell that is not below M, with small and larger memories: nothing is said of words, and the cell is named."""
-    for cells in (256, 1024):
-        parts, start = each_kind()
-        parts = resized(parts, MEMORY, 4 * cells)
-        for part, rule, number, column, _ in ONE:
-            for cell in (cells, cells + 1, 2**30, P - 1):
-                for word in (0, word_at(parts, part, 9, column)):
-                    now = changed(parts, (part, 9, number, cell), (part, 9, column, word))
-                    refused(f"rule {rule}, cell {cell} of {cells}, {word}", now, start, (VERDICT[part], part, 9, rule, 0, 0),
-                            f"cell {cell} is not below M = {cells}, the number of cells")
+    whole, start = each_kind()
+    for (part, rule, number, column, _), (cells, cell) in itertools.product(ONE, FAR):
+        parts = resized(whole, MEMORY, 4 * cells)
+        for word in (0, word_at(parts, part, 9, column)):
+            now = changed(parts, (part, 9, number, cell), (part, 9, column, word))
+            refused(f"rule {rule}, cell {cell} of {cells}, {word}", now, start, (VERDICT[part], part, 9, rule, 0, 0),
+                    f"cell {cell} is not below M = {cells}, the number of cells")
 
 
 def far_of_five():
