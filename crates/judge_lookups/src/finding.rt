@@ -1,5 +1,6 @@
 // What a lookup that fails found: document 02, M-104.
 use crate::lookup::Cell;
+use crate::lookup::cell_inside;
 use crate::lookup::look;
 use rules::Found;
 ghost use mathlib.Core.Path.{_≡_};
@@ -37,10 +38,7 @@ fn compared_at(memory: &[u8], at: usize, found: u32, rest: Found) -> Found
     requires { ⌜ at < length (now memory) / 4 ⌝ }
     ensures { λ r. ⌜ r ≡ cond (eqb found (wordOf (now (memory .entry)) at)) rest (finding (wordOf (now (memory .entry)) at) found) ⌝ }
 {
-    match look(memory, at) {
-        Cell::Word(expected) => compared(expected, found, rest),
-        Cell::Outside => rest,
-    }
+    compared(cell_inside(memory, at), found, rest)
 }
 
 // Of a lookup of one cell.

@@ -6,7 +6,6 @@ mod lookup;
 pub use finding::found_five;
 pub use finding::found_one;
 pub use finding::nothing;
-pub use lookup::Cell;
 pub use lookup::looks_up;
 pub use lookup::looks_up_five;
 ghost use mathlib.Core.Path.{_≡_};

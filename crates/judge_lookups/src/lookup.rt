@@ -1,8 +1,18 @@
-// Lookups into the memory. `look` alone reads it; the rules of a row compare.
+// Lookups into the memory. The judge reads a cell in `cell_inside` alone; the rules of a row compare.
 use word::word_inside;
 ghost use mathlib.Core.Path.{_≡_};
-ghost use Prim.Native.Nat.{_+_, _<_};
+ghost use Prim.Native.Nat.{_/_, _<_};
+ghost use lib.ListN.{length};
+ghost use Rattle.rules.specs.Sizes.{wordOf};
 ghost use Rattle.judge_lookups.specs.Memory.{cellOf, cellIs, cellsAre};
+
+// The word of a cell that is there.
+pub(crate) fn cell_inside(memory: &[u8], addr: usize) -> u32
+    requires { ⌜ addr < length (now memory) / 4 ⌝ }
+    ensures { λ r. ⌜ r ≡ wordOf (now (memory .entry)) addr ⌝ }
+{
+    word_inside(memory, 4 * addr)
+}
 
 // What stands in a cell, or that there is no such cell.
 pub enum Cell {
@@ -10,13 +20,13 @@ pub enum Cell {
     Outside,
 }
 
-pub fn look(memory: &[u8], addr: usize) -> Cell
+pub(crate) fn look(memory: &[u8], addr: usize) -> Cell
     ensures { λ r. ⌜ r ≡ cellOf (now (memory .entry)) addr ⌝ }
 {
     if memory.len() / 4 <= addr {
         return Cell::Outside;
     }
-    Cell::Word(word_inside(memory, 4 * addr))
+    Cell::Word(cell_inside(memory, addr))
 }
 
 // The cell exists and holds the value.
@@ -29,14 +39,17 @@ pub fn looks_up(memory: &[u8], addr: usize, value: u32) -> bool
     }
 }
 
-// Five cells from an address on.
+// Five cells from an address on: where the last is there all are.
 pub fn looks_up_five(memory: &[u8], addr: u32, a: [u32; 5]) -> bool
     ensures { λ r. ⌜ r ≡ cellsAre (now (memory .entry)) addr a ⌝ }
 {
     let at = addr as usize;
-    looks_up(memory, at, a[0])
-        & looks_up(memory, at + 1, a[1])
-        & looks_up(memory, at + 2, a[2])
-        & looks_up(memory, at + 3, a[3])
-        & looks_up(memory, at + 4, a[4])
+    if memory.len() / 4 <= at + 4 {
+        return false;
+    }
+    (a[0] == cell_inside(memory, at))
+        & (a[1] == cell_inside(memory, at + 1))
+        & (a[2] == cell_inside(memory, at + 2))
+        & (a[3] == cell_inside(memory, at + 3))
+        & (a[4] == cell_inside(memory, at + 4))
 }

@@ -8,7 +8,7 @@ returns : tie.Need-returns
 returns c = rw (le-ltb _ _ (c .if1 .taken))
 
 returns-2 : tie.Need-returns-2
-returns-2 c = rw (lt-ltb _ _ (c .before .if1 .left), c .word-inside .ensures)
+returns-2 c = rw (lt-ltb _ _ (c .before .if1 .left), c .cell-inside .ensures)
 
 pub look-spec : {M : Type 1} → statement M
-look-spec = tie.close (tie.spec returns (λ c. search needs) (λ c κs. search needs) returns-2)
+look-spec = tie.close (tie.spec returns (λ c κs. search needs) returns-2)
