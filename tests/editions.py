@@ -11,10 +11,10 @@ sys.dont_write_bytecode = True
 import oracle
 import oracle_editions
 from editions_table import PROGRAMS, REFUSED
-from oracle import P
+from oracle import P, six
 
-CELLS, ROWS, FILL, HEAD = 256, 256, b"\xa5", struct.Struct("<5Q")
-UNCALLED, GOOD = struct.unpack("<4I", FILL * 16), "3 8 5  1 1 0  1 0 0 0  0 0  0 0"
+CELLS, ROWS, FILL, HEAD, ANSWER = 256, 256, b"\xa5", struct.Struct("<5Q"), struct.Struct("<6I")
+UNCALLED, GOOD = ANSWER.unpack(FILL * ANSWER.size), "3 8 5  1 1 0  1 0 0 0  0 0  0 0"
 
 
 def words(text):
@@ -49,11 +49,11 @@ class Case:
         states, end, rule = re.fullmatch(r"(.+) (stays|open|stuck) ?(\d?)", run).groups()
         self.begins = [words(state) for state in states.split()]
         if end == "stuck":
-            self.tabled = 9, 0, len(self.begins) - 1, int(rule)
+            self.tabled = six(9, 0, len(self.begins) - 1, int(rule))
         elif end == "open":
-            self.tabled = 11, 0, ROWS - 1, 0
+            self.tabled = six(11, 0, ROWS - 1)
         else:
-            self.tabled = self.judged = 0, 0, 0, 0
+            self.tabled = self.judged = six(0)
             self.states = self.begins + self.begins[-1:] * (ROWS - len(self.begins))
         return self
 
@@ -61,22 +61,22 @@ class Case:
 def translated():
     for name, cells, start, insts, run in PROGRAMS:
         old, new = zip(*(inst.split(" -> ") for inst in insts))
-        yield Case(name, program(old), (0, 0, 0, 0), new=program(new), cells=cells, start=start).runs(run)
+        yield Case(name, program(old), six(0), new=program(new), cells=cells, start=start).runs(run)
 
 
 def refused():
     """Each reason at places 0 and 2 with another behind it; then SIZE and WORD, which come first."""
     for name, inst in REFUSED:
         for place in (0, 2):
-            yield Case(f"{name}, at {place}", program([GOOD] * place + [inst, GOOD, REFUSED[0][1]]), (15, 0, place, 0))
+            yield Case(f"{name}, at {place}", program([GOOD] * place + [inst, GOOD, REFUSED[0][1]]), six(15, 0, place))
     two, bad = program([GOOD, GOOD]), program([REFUSED[0][1], GOOD])
     for size in (0, 1, 55, 57, 111, 113):
-        yield Case(f"old of {size} bytes", (two + two)[:size], (1, 1, 0, 0), room=96)
+        yield Case(f"old of {size} bytes", (two + two)[:size], six(1, 1), room=96)
     for room in (0, 47, 48, 95, 97, 112, 144):
-        yield Case(f"program of {room} bytes", bad, (1, 1, 0, 0), room=room)
+        yield Case(f"program of {room} bytes", bad, six(1, 1), room=room)
     for place in (0, 5, 13, 14, 27):
-        yield Case(f"word {place}", oracle.poke(bad, place, P + place), (2, 1, place, 0))
-    yield Case("no byte at all", b"", (1, 1, 0, 0))
+        yield Case(f"word {place}", oracle.poke(bad, place, P + place), six(2, 1, place))
+    yield Case("no byte at all", b"", six(1, 1))
 
 
 def differences(case, found):
@@ -107,12 +107,12 @@ def by_oracle(case):
 
 def by_library(case, stream):
     """What the driver wrote of the case."""
-    sizes = 16, case.room, 16, 32 * ROWS, 16
+    sizes = ANSWER.size, case.room, ANSWER.size, 32 * ROWS, ANSWER.size
     parts = [stream.read(size) for size in sizes]
     if [len(part) for part in parts] != list(sizes):
         yield f"{case.name}: the driver stopped"
         return
-    answers = [struct.unpack("<4I", parts[k]) for k in (0, 2, 4)]
+    answers = [ANSWER.unpack(parts[k]) for k in (0, 2, 4)]
     yield from differences(case, (answers[0], parts[1], answers[1], parts[3], answers[2]))
 
 

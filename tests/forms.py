@@ -11,7 +11,7 @@ import shelf
 
 def refused(text):
     """Why a label is refused, as its answer names it: the numbers that aren't 0."""
-    lines = [line.split("=") for line in shelf.answer_and_tables(text)[0].decode("latin-1").split("\n")[-5:-1]]
+    lines = [line.split("=") for line in shelf.answer_and_tables(text)[0].decode("latin-1").split("\n")[-7:-1]]
     (_, verdict), *numbers = lines
     return " ".join([oracle.NAMES[int(verdict)]] + [f"{name} {number}" for name, number in numbers if number != "0"])
 

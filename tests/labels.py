@@ -1,4 +1,4 @@
-"""Texts and recipes for the program `test_labels`, and what it must print, from documents 01 and 02's M-103 alone.
+"""Texts and recipes for the program `test_labels`, and what it must print, from documents 01 and 02's M-103 and M-104.
 
   python3 tests/labels.py stdin     the program's standard input
   python3 tests/labels.py stdout    what it must write
@@ -59,16 +59,16 @@ def place(text):
 
 
 def reading(text):
-    """The numbers of a text's reading: it is accepted where it is the label of the numbers in it."""
+    """The answer's six numbers and the four of the recipe: a text is accepted where it is the label of what is in it."""
     lines = text.split(b"\n")
     if len(lines) == 5:
         try:
             version, seed, m, n = int(lines[0][2:]), int(lines[1][5:], 16), int(lines[2][2:]), int(lines[3][2:])
             if 0 <= seed < 2**64 and in_range(version, m, n) and label(version, seed, m, n) == text:
-                return (0, 0, 0, 0, version, seed, m, n)
+                return (0, 0, 0, 0, 0, 0, version, seed, m, n)
         except ValueError:
             pass
-    return (8, 0, place(text), 0, 0, 0, 0, 0)
+    return (8, 0, place(text), 0, 0, 0, 0, 0, 0, 0)
 
 
 def near(base):
@@ -144,12 +144,13 @@ def texts():
 
 
 def writing(version, seed, m, n, room):
+    """The answer's six numbers and the length written, and the buffer."""
     if not in_range(version, m, n):
-        return (1, 0, 0, 0, 0), DOTS
+        return (1, 0, 0, 0, 0, 0, 0), DOTS
     text = label(version, seed, m, n)
     if room < len(text):
-        return (1, 5, len(text), 0, 0), DOTS
-    return (0, 0, 0, 0, len(text)), text + DOTS[len(text):]
+        return (1, 5, len(text), 0, 0, 0, 0), DOTS
+    return (0, 0, 0, 0, 0, 0, len(text)), text + DOTS[len(text):]
 
 
 def main(what):

@@ -9,7 +9,7 @@ tests/oracle.py, run as a program, runs the checks below too.
 from itertools import product
 
 import oracle
-from oracle import P, Stuck
+from oracle import P, Stuck, six
 
 EDITION, WIDTH = 15, 14
 KINDS = {(1, 0, 0, 0): "add", (0, 1, 0, 0): "mul", (0, 0, 1, 0): "deref", (0, 0, 0, 1): "jump"}
@@ -46,14 +46,14 @@ def translate(old, program_len):
     """(answer, program) for an output of so many bytes; None is unchanged (02, M-102; point 15)."""
     count = len(old) // 56
     if len(old) % 56 or not 1 <= count <= 2**20 or program_len != 48 * count:
-        return (1, 1, 0, 0), None
+        return six(1, 1), None
     words = oracle.words_of(old)
     if max(words) >= P:
-        return (2, 1, next(place for place, word in enumerate(words) if word >= P), 0), None
+        return six(2, 1, next(place for place, word in enumerate(words) if word >= P)), None
     program = [translated(instruction) for instruction in oracle.rows_of(words, WIDTH)]
     if None in program:
-        return (EDITION, 0, program.index(None), 0), None
-    return (0, 0, 0, 0), bytes_of(program)
+        return six(EDITION, 0, program.index(None)), None
+    return six(0), bytes_of(program)
 
 # ---- the machine ----
 def old_step(code, cells, pc, fp):
@@ -92,8 +92,8 @@ def old_run(code, cells, pc, fp, height):
         try:
             pc, fp = old_step(code, cells, pc, fp)
         except Stuck as stuck:
-            return (9, 0, place, stuck.args[0]), states[:-1]
-    return ((0, 0, 0, 0) if (pc, fp) == states[-1] else (11, 0, height - 1, 0)), states
+            return six(9, 0, place, stuck.args[0]), states[:-1]
+    return (six(0) if (pc, fp) == states[-1] else six(11, 0, height - 1)), states
 
 # ---- self-check ----
 def old(kind, a=0, b=0, c=0, flags=(1, 1, 1), aux=0):
@@ -129,15 +129,15 @@ def check_refusals(check):
     """SIZE, WORD, EDITION in this order, with their places (02, M-102; point 15)."""
     good, bad = old("add"), changed(old("add"), w13=1)
     for name, insts, size, wanted in (
-            ("no instruction", [], 0, (1, 1, 0, 0)), ("output short", [good], 47, (1, 1, 0, 0)),
-            ("output of another", [good], 96, (1, 1, 0, 0)), ("output empty", [good], 0, (1, 1, 0, 0)),
-            ("last word", [good, changed(bad, w13=P)], 96, (2, 1, 27, 0)),
-            ("word after edition", [bad, changed(good, w0=2**32 - 1)], 96, (2, 1, 14, 0)),
-            ("second instruction", [good, bad, bad], 144, (EDITION, 0, 1, 0))):
+            ("no instruction", [], 0, six(1, 1)), ("output short", [good], 47, six(1, 1)),
+            ("output of another", [good], 96, six(1, 1)), ("output empty", [good], 0, six(1, 1)),
+            ("last word", [good, changed(bad, w13=P)], 96, six(2, 1, 27)),
+            ("word after edition", [bad, changed(good, w0=2**32 - 1)], 96, six(2, 1, 14)),
+            ("second instruction", [good, bad, bad], 144, six(EDITION, 0, 1))):
         check(name, translate(bytes_of(insts), size), (wanted, None))
     for cut in (1, 48, 55):
-        check("old cut by %d" % cut, translate(bytes_of([good, good])[:-cut], 96), ((1, 1, 0, 0), None))
-    for many, wanted in ((2**20, (2, 1, 0, 0)), (2**20 + 1, (1, 1, 0, 0))):
+        check("old cut by %d" % cut, translate(bytes_of([good, good])[:-cut], 96), (six(1, 1), None))
+    for many, wanted in ((2**20, six(2, 1)), (2**20 + 1, six(1, 1))):
         check("%d instructions" % many, translate(b"\xff" * 56 * many, 48 * many), (wanted, None))
 
 def every_step():
@@ -181,6 +181,6 @@ def self_check():
     check_refusals(check)
     check_steps(check)
     check("leaves the program", outcome(old_step, old("jump", 1, 9), (0,) * 256, 3), (9, 3))
-    check("open", old_run([old("jump", 1, 1), old("jump", 1, 0)], (0,) * 256, 0, 0, 4)[0], (11, 0, 3, 0))
-    check("outside", old_run([old("add", 3, 3)], (0,) * 256, 0, 0, 4), ((9, 0, 1, 1), [(0, 0)]))
+    check("open", old_run([old("jump", 1, 1), old("jump", 1, 0)], (0,) * 256, 0, 0, 4)[0], six(11, 0, 3))
+    check("outside", old_run([old("add", 3, 3)], (0,) * 256, 0, 0, 4), (six(9, 0, 1, 1), [(0, 0)]))
     return passed, failed

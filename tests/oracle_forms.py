@@ -11,7 +11,7 @@ import oracle
 
 KINDS, MODES = ("add", "mul", "deref", "jump", "ext"), ("imm", "cell", "fp")
 FORMS = [".".join(names) for names in product(KINDS, MODES, MODES, MODES)]  # grid order: kind slowest, C fastest
-FRESH = (0,) * len(FORMS)
+FRESH, OK = (0,) * len(FORMS), oracle.six(0)
 LIMIT = 2**63 - 1
 
 def grid_of(data):
@@ -36,7 +36,7 @@ def count(program, memory, pc, fp, exec_table, ext_table, grid):
         return answer, grid
     steps = oracle.rows_of(oracle.words_of(exec_table), 8)
     if sum(grid) + len(steps) > LIMIT:
-        return (14, 0, 0, 0), grid
+        return oracle.six(14), grid
     code, after = oracle.rows_of(oracle.words_of(program), 12), list(grid)
     for row in steps:
         after[FORMS.index(form(code[row[0]]))] += 1
@@ -46,8 +46,8 @@ def report(grid, room=None):
     """(answer, text) for a buffer of so many bytes, or a long one; no text on refusal (02, M-100; point 14)."""
     text = "".join("%s=%d\n" % line for line in zip(FORMS, grid) if line[1] != 0).encode()
     if room is not None and len(text) > room:
-        return (1, 5, len(text), 0), b""
-    return (0, 0, 0, 0), text
+        return oracle.six(1, 5, len(text)), b""
+    return oracle.six(0), text
 
 # ---- self-check ----
 def possible():
@@ -81,16 +81,16 @@ def check_forms(check, names):
     answer, parts, steps, groups = oracle.run([instruction_of(name) for name in names], [0] * 256)
     wanted = [int(name in names) for name in FORMS]
     wanted[FORMS.index("jump.imm.imm.fp")] += 256 - 50  # the end of the run stays
-    check("each form once", (answer, *count(*parts, 0, 0, steps, groups, FRESH)), ((0,) * 4, (0,) * 4, tuple(wanted)))
+    check("each form once", (answer, *count(*parts, 0, 0, steps, groups, FRESH)), (OK, OK, tuple(wanted)))
     return (*parts, 0, 0, steps, groups), tuple(wanted)
 
 def check_limit(check, tables, rows):
     """Totals at 2^63 - 1 and beyond; a refused table is not asked for its rows (02, M-100; point 14)."""
-    ok, over, refused, left = (0,) * 4, (14, 0, 0, 0), (4, 0, 0, 0), 9223372036854775807 - 256
+    over, refused, left = oracle.six(14), oracle.six(4), 9223372036854775807 - 256
     spread = (left // 135,) * 134
     for grid in (in_last(left), spread + (left - sum(spread),)):
         after = tuple(old + more for old, more in zip(grid, rows))
-        check("2^63 - 1 is taken", (count(*tables, grid), sum(after)), ((ok, after), 2**63 - 1))
+        check("2^63 - 1 is taken", (count(*tables, grid), sum(after)), ((OK, after), 2**63 - 1))
         more = grid[:5] + (grid[5] + 1,) + grid[6:]
         check("one more is not", count(*tables, more), (over, more))
     for grid in ((2**64 - 1,) * 135, in_last(2**64 - 1), (2**63, 2**63) + FRESH[2:]):
@@ -113,11 +113,11 @@ def check_report(check, rows):
     grid = list(FRESH)
     grid[0 * 27 + 1 * 9 + 0 * 3 + 2], grid[134], grid[2 * 27 + 1 * 9 + 0 * 3 + 0] = 12, 2**64 - 1, 10
     text = b"add.cell.imm.fp=12\nderef.cell.imm.imm=10\next.fp.fp.fp=18446744073709551615\n"
-    check("report", report(grid), ((0,) * 4, text))
+    check("report", report(grid), (OK, text))
     for room in range(77):
-        wanted = ((0,) * 4, text) if room >= 75 else ((1, 5, 75, 0), b"")
+        wanted = (OK, text) if room >= 75 else (oracle.six(1, 5, 75), b"")
         check("report in %d bytes" % room, report(grid, room), wanted)
-    check("report of a fresh grid", report(FRESH, 0), ((0,) * 4, b""))
+    check("report of a fresh grid", report(FRESH, 0), (OK, b""))
     check("longest report", len(report((2**64 - 1,) * 135)[1]), 5076)
     lines = report(rows)[1].decode().split("\n")
     check("report of all forms", (len(lines), "jump.imm.imm.fp=207" in lines, lines[-1]), (51, True, ""))

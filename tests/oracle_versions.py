@@ -5,7 +5,7 @@ tests/oracle.py, run as a program, runs the checks below too.
 """
 
 import oracle
-from oracle import BOUND, P, draw, label, make, read_label
+from oracle import BOUND, P, draw, label, make, read_label, six
 
 # Of the 2^64 seeds 271 throw away their first eight draws, and of one the ninth is as large: lattice points in a box.
 EIGHT, NINE = (0x00FFDB37CB0C5F43, 0x7EC17CC095A397D9), 0xF145D301722DD9A0
@@ -91,18 +91,18 @@ def refuses(call, *recipe):
 
 def check_labels(check):
     """Labels of either version, every byte where it stands, and every cut (02, M-103; points 2 and 5)."""
-    zeros = (0,) * 4
+    ok, nothing = six(0), (0,) * 4
     for version in (1, 2):
         good = label(version, 0x12FFFFFFF, 10, 124)
-        check("label of version %d" % version, read_label(good), zeros + (version, 0x12FFFFFFF, 10, 124))
+        check("label of version %d" % version, read_label(good), ok + (version, 0x12FFFFFFF, 10, 124))
         for end in range(len(good)):
-            check("version %d cut at %d" % (version, end), read_label(good[:end]), (8, 0, end, 0) + zeros)
+            check("version %d cut at %d" % (version, end), read_label(good[:end]), six(8, 0, end) + nothing)
         for byte in range(256):
-            wanted = {ord("1"): zeros + (1, 0x12FFFFFFF, 10, 124), ord("2"): zeros + (2, 0x12FFFFFFF, 10, 124)}
+            wanted = {ord("1"): ok + (1, 0x12FFFFFFF, 10, 124), ord("2"): ok + (2, 0x12FFFFFFF, 10, 124)}
             text = good[:2] + bytes([byte]) + good[3:]
-            check("version's byte %d" % byte, read_label(text), wanted.get(byte, (8, 0, 2, 0) + zeros))
+            check("version's byte %d" % byte, read_label(text), wanted.get(byte, six(8, 0, 2) + nothing))
         for more in (b"1", b"2", b"0"):
-            check("two digits", read_label(good[:3] + more + good[3:]), (8, 0, 3, 0) + zeros)
+            check("two digits", read_label(good[:3] + more + good[3:]), six(8, 0, 3) + nothing)
     for version in BAD_VERSIONS:
         for call in (label, make):
             check("version %d is out of range" % version, refuses(call, version, 0, 10, 1), True)
@@ -112,7 +112,7 @@ def check_recipes(check):
     for seed in (0, 1, 0x12FFFFFFF, 2**64 - 1, NINE, *EIGHT):
         parts = make(2, seed, 10, 124)
         answer, steps, groups = oracle.table(*parts, 0, 0, 32 * 256, 120 * 256)
-        check("recipe %016x" % seed, (answer, oracle.judge(*parts, 0, 0, steps, groups)), ((0,) * 4,) * 2)
+        check("recipe %016x" % seed, (answer, oracle.judge(*parts, 0, 0, steps, groups)), (six(0),) * 2)
 
 def self_check():
     """M-103's own checks; (passed, failed)."""

@@ -14,23 +14,27 @@ H = K = 256
 SEEDS = {"low": 0x000000002FFFFFFF, "one": 0x000000012FFFFFFF, "all": 0xFFFFFFFF2FFFFFFF}  # they differ in the upper half alone
 
 
-def four_lines(answer):
-    return "".join(f"{name}={number}\n" for name, number in zip(("verdict", "part", "place", "rule"), answer)).encode()
+NUMBERS = ("verdict", "part", "place", "rule", "expected", "found")
+
+
+def six_lines(answer):
+    """An answer as it is printed; numbers at its end that are not given are 0."""
+    return "".join(f"{name}={number}\n" for name, number in zip(NUMBERS, oracle.six(*answer))).encode()
 
 
 def answer_and_tables(text):
-    """What the replay and the table program write, by document 01."""
+    """What the replay and the table program write, by document 01 and 02's M-104."""
     *answer, version, seed, m, n = oracle.read_label(text)
     if answer[0] != 0:
-        return four_lines(answer), b""
+        return six_lines(answer), b""
     if m != 10:
-        return text + four_lines((1, 2, 0, 0)), b""
+        return text + six_lines((1, 2)), b""
     program, memory = oracle.make(version, seed, m, n)
     tabled, execution, extension = oracle.table(program, memory, 0, 0, 32 * H, 120 * K)
     judged = oracle.judge(program, memory, 0, 0, execution, extension)
     if tabled[0] != 0 or judged[0] != 0:
-        return text + four_lines((12, 0, 0, 0)), b""
-    return text + four_lines((0, 0, 0, 0)), bytes(program) + bytes(memory) + bytes(execution) + bytes(extension)
+        return text + six_lines((12,)), b""
+    return text + six_lines((0,)), bytes(program) + bytes(memory) + bytes(execution) + bytes(extension)
 
 
 def kind_of(seed):

@@ -14,7 +14,7 @@ import oracle
 import trials_input
 import trials_judge
 import trials_tabler
-from trials_parts import EXEC, EXT
+from trials_parts import EXEC, EXEC_LOOKUPS, EXT, EXT_LOOKUPS
 
 CAPACITY = 65536  # bytes in each of the program's buffers
 WIDTHS = (48, 64, 32, 120)  # bytes that are compared at once: a row of each part, or some cells
@@ -87,7 +87,7 @@ class Trials:
         self.command(b"J")
         answer = oracle.judge(program, memory, *start, steps, groups)
         assert wanted in (None, answer), (name, answer, wanted)
-        self.seen.add((b"J", answer[0], answer[3]))
+        self.seen.add((b"J", answer[0], answer[3], any(answer[4:])))
         self.line(name, answer)
         return answer
 
@@ -98,7 +98,7 @@ class Trials:
         self.command(b"T")
         answer, *after = oracle.table(program, memory, *start, exec_len, ext_len)
         assert answer == wanted, (name, answer, wanted)
-        self.seen.add((b"T", answer[0], answer[3]))
+        self.seen.add((b"T", answer[0], answer[3], any(answer[4:])))
         steps, groups = before if answer[0] in (1, 2, 3, 4) else after
         self.line(name, answer + (checksum(steps), checksum(groups)))
         self.buffers[EXEC - 1][:exec_len] = steps
@@ -108,10 +108,11 @@ class Trials:
 
 
 def covered(seen):
-    """Each verdict and each rule has been the answer to some case."""
+    """Each verdict and rule has been the answer to some case; lookups with words and without, no other with words."""
     plain = {(kind, verdict, 0) for kind, verdicts in ((b"J", (0, 1, 2, 3, 4, 7)), (b"T", (0, 1, 2, 3, 4, 10, 11))) for verdict in verdicts}
     ruled = {(b"J", 5, r) for r in range(1, 17)} | {(b"J", 6, r) for r in range(1, 22)} | {(b"T", 9, r) for r in range(1, 9)}
-    return seen == plain | ruled
+    told = {(b"J", 5, r) for r in EXEC_LOOKUPS} | {(b"J", 6, r) for r in EXT_LOOKUPS}
+    return seen == {(*case, False) for case in plain | ruled} | {(*case, True) for case in told}
 
 
 def main(what):

@@ -1,7 +1,7 @@
 """Bad input, for judge and tabler: lengths, words, instructions and start numbers.
 
 The upper limits of the lengths are beyond the program's buffers."""
-from oracle import P, inst
+from oracle import P, inst, six
 from trials_parts import (
     A, ACCEPTED, B, C, DATA, EXEC, EXT, FP, FPC, MEMORY, PC, PROGRAM, WORDS, changed, each_kind)
 
@@ -21,17 +21,17 @@ def sizes(parts):
     for part, row in enumerate(ROWS, 1):
         good = len(parts[part - 1])
         for length in (0, 1, good - 1, good + 1):
-            yield f"part {part} of {length} bytes", (1, part, 0, 0), resized(parts, part, length)
+            yield f"part {part} of {length} bytes", six(1, part), resized(parts, part, length)
         if part != PROGRAM:
             for count in (1, 127, 128, 129, 255, 257, 384, 511, 513):
-                yield f"part {part} of {count} rows", (1, part, 0, 0), resized(parts, part, count * row)
+                yield f"part {part} of {count} rows", six(1, part), resized(parts, part, count * row)
             yield f"part {part} of 512 rows", ACCEPTED, resized(parts, part, 512 * row)
     yield "part 1 of an instruction more, which nothing reaches", ACCEPTED, resized(parts, PROGRAM, len(parts[0]) + 48)
     yield "1024 cells", ACCEPTED, resized(parts, MEMORY, 4 * 1024)
     for part in (1, 2, 3):
-        yield f"all parts from {part} on empty", (1, part, 0, 0), parts[:part - 1] + (b"",) * (5 - part)
-    yield "parts 2 and 4 a byte short", (1, 2, 0, 0), (parts[0], parts[1][:-1], parts[2], parts[3][:-1])
-    yield "part 4 a byte short, a word of part 1", (1, 4, 0, 0), resized(changed(parts, (PROGRAM, 0, 0, P)), EXT, len(parts[3]) - 1)
+        yield f"all parts from {part} on empty", six(1, part), parts[:part - 1] + (b"",) * (5 - part)
+    yield "parts 2 and 4 a byte short", six(1, 2), (parts[0], parts[1][:-1], parts[2], parts[3][:-1])
+    yield "part 4 a byte short, a word of part 1", six(1, 4), resized(changed(parts, (PROGRAM, 0, 0, P)), EXT, len(parts[3]) - 1)
 
 
 def wrong_words(parts, which):
@@ -41,14 +41,14 @@ def wrong_words(parts, which):
         for place in (0, count // 2, count - 1):
             for word in (P, P + 1, 2**32 - 1):
                 row, column = divmod(place, WORDS[part - 1])
-                yield f"word {word} at {place} of part {part}", (2, part, place, 0), changed(parts, (part, row, column, word))
+                yield f"word {word} at {place} of part {part}", six(2, part, place), changed(parts, (part, row, column, word))
 
 
 def words(parts):
     yield from wrong_words(parts, (PROGRAM, MEMORY))
     yield "p - 1 is a word", ACCEPTED, changed(parts, *[(PROGRAM, SKIPPED, k, P - 1) for k in (A, B, C)], (MEMORY, 255, 0, P - 1))
-    yield "a word, a malformed instruction before it", (2, 1, 30, 0), changed(parts, (PROGRAM, 0, DATA, 1), (PROGRAM, 2, FPC, P))
-    yield "a word of part 1, one of part 2", (2, 1, 155, 0), changed(parts, (MEMORY, 0, 0, P), (PROGRAM, 12, DATA, P))
+    yield "a word, a malformed instruction before it", six(2, 1, 30), changed(parts, (PROGRAM, 0, DATA, 1), (PROGRAM, 2, FPC, P))
+    yield "a word of part 1, one of part 2", six(2, 1, 155), changed(parts, (MEMORY, 0, 0, P), (PROGRAM, 12, DATA, P))
 
 
 def malformed():
@@ -82,9 +82,9 @@ def instructions(parts):
         return changed(parts, *[(PROGRAM, place, k, word) for k, word in enumerate(words)])
 
     for name, words in malformed():
-        yield name, (3, 1, SKIPPED, 0), at(SKIPPED, words)
+        yield name, six(3, 1, SKIPPED), at(SKIPPED, words)
     for place in (0, 12):
-        yield f"instruction {place} malformed", (3, 1, place, 0), at(place, inst(data=1))
+        yield f"instruction {place} malformed", six(3, 1, place), at(place, inst(data=1))
     for data in (4 + 32 * MANY, 8 + 2 + 32 * MANY, 16 + 32, 4 + 32, 8 + 32, 6 + 32):
         yield f"well-formed DATA {data}", ACCEPTED, at(SKIPPED, inst(data=data))
 
@@ -104,10 +104,10 @@ def cases(t):
     for name, answer, given in shared + list(wrong_words(parts, (EXEC, EXT))):
         t.judge(name, answer, given, start)
     for wrong in [*starts(*start), (1, 40), (0, 41), (P - 1, 40), (40, 0)]:
-        t.judge(f"start {wrong}", (4, 0, 0, 0), parts, wrong)
-    t.judge("row 0 has another pc", (4, 0, 0, 0), changed(parts, (EXEC, 0, PC, 1)), start)
-    t.judge("row 0 has another fp", (4, 0, 0, 0), changed(parts, (EXEC, 0, FP, 41)), start)
+        t.judge(f"start {wrong}", six(4), parts, wrong)
+    t.judge("row 0 has another pc", six(4), changed(parts, (EXEC, 0, PC, 1)), start)
+    t.judge("row 0 has another fp", six(4), changed(parts, (EXEC, 0, FP, 41)), start)
     for name, answer, given in shared:
         t.table(name, answer, given[0], given[1], start, len(given[2]), len(given[3]))
     for wrong in starts(*start):
-        t.table(f"start {wrong}", (4, 0, 0, 0), parts[0], parts[1], wrong)
+        t.table(f"start {wrong}", six(4), parts[0], parts[1], wrong)

@@ -1,10 +1,12 @@
 """The judge's cases on well-formed input: what the rules let pass, the bus, several faults at once, and single words changed."""
 import oracle
+import trials_lookups
 import trials_rules
-from oracle import ADD, MUL, P, PEQ, bytes_of, inst, rows_of, words_of
+from oracle import ADD, MUL, P, PEQ, bytes_of, inst, rows_of, six, words_of
 from trials_parts import (
-    A, ACCEPTED, ADDR_A, ADDR_B, ADDR_C, AUX, B, BE, C, COMP, DATA, EXEC, EXT, FP, IDX_A, IDX_B, IDX_R, IMM, LEN, MEMORY, PC, PEQS, PROGRAM,
-    RES, START, V_A, V_A_BASE, V_B, VALUE_A, VALUE_B, VALUE_C, ZEROS, Run, changed, code_of, each_kind, each_mode, moved, with_groups)
+    A, ACCEPTED, ADDR_A, ADDR_B, ADDR_C, AUX, B, BE, C, COMP, DATA, EXEC, EXEC_LOOKUPS, EXT, EXT_LOOKUPS, FP, IDX_A, IDX_B, IDX_R, IMM, LEN,
+    MEMORY, PC, PEQS, PROGRAM, RES, START, V_A, V_A_BASE, V_B, VALUE_A, VALUE_B, VALUE_C, ZEROS, Run, changed, code_of, each_kind, each_mode,
+    moved, off_by_one, with_groups)
 
 BUS_STEP, BUS_GROUP = 3, 4  # the parts that BUS names
 HALF = (P + 1) // 2
@@ -23,24 +25,24 @@ def buses(t, parts, start):
     def judged(name, answer, *groups):
         t.judge(name, answer, with_groups(parts, [row for group in groups for row in group] + pad + pad[:32]), start)
 
-    judged("no pull at all", (7, BUS_STEP, 6, 0))
-    judged("the first group missing", (7, BUS_STEP, 6, 0), muls, peqs, once, once)
-    judged("the second group missing", (7, BUS_STEP, 7, 0), adds, peqs, once, once)
-    judged("two pushes, one pull", (7, BUS_STEP, 9, 0), adds, muls, peqs, once)
-    judged("two pushes, three pulls", (7, BUS_STEP, 9, 0), adds, muls, peqs, once, once, once)
-    judged("one push, two pulls", (7, BUS_STEP, 7, 0), adds, muls, muls, peqs, once, once)
-    judged("a pull that nothing pushes", (7, BUS_GROUP, 9, 0), adds, muls, peqs, once, once, sums)
-    judged("the same in front", (7, BUS_GROUP, 0, 0), sums, adds, muls, peqs, once, once)
-    judged("one missing and one too many", (7, BUS_STEP, 8, 0), sums, adds, muls, once, once)
-    judged("another order, one missing", (7, BUS_STEP, 7, 0), once, peqs, adds, once)
+    judged("no pull at all", six(7, BUS_STEP, 6))
+    judged("the first group missing", six(7, BUS_STEP, 6), muls, peqs, once, once)
+    judged("the second group missing", six(7, BUS_STEP, 7), adds, peqs, once, once)
+    judged("two pushes, one pull", six(7, BUS_STEP, 9), adds, muls, peqs, once)
+    judged("two pushes, three pulls", six(7, BUS_STEP, 9), adds, muls, peqs, once, once, once)
+    judged("one push, two pulls", six(7, BUS_STEP, 7), adds, muls, muls, peqs, once, once)
+    judged("a pull that nothing pushes", six(7, BUS_GROUP, 9), adds, muls, peqs, once, once, sums)
+    judged("the same in front", six(7, BUS_GROUP), sums, adds, muls, peqs, once, once)
+    judged("one missing and one too many", six(7, BUS_STEP, 8), sums, adds, muls, once, once)
+    judged("another order, one missing", six(7, BUS_STEP, 7), once, peqs, adds, once)
     judged("another order", ACCEPTED, once, peqs, adds, once, muls)
     judged("another order, with padding between", ACCEPTED, pad[:3], muls, pad[:1], peqs, once, pad[:2], once, adds)
-    judged("a pull that nothing pushes on the last row", (7, BUS_GROUP, 255, 0), rows[:9], pad[:246], sums)
+    judged("a pull that nothing pushes on the last row", six(7, BUS_GROUP, 255), rows[:9], pad[:246], sums)
     for name, column in (("A", A), ("B", B), ("C", C)):
-        t.judge(f"the push names another {name}", (7, BUS_STEP, 6, 0), changed(parts, moved(parts, PROGRAM, 7, column)), start)
+        t.judge(f"the push names another {name}", six(7, BUS_STEP, 6), changed(parts, moved(parts, PROGRAM, 7, column)), start)
     for op, be, n in ((MUL, 0, 2), (PEQ, 0, 2), (ADD, 1, 2), (ADD, 0, 3), (ADD, 0, 2**20)):
         data = oracle.data_word(op, be, n)
-        t.judge(f"the push has DATA {data}", (7, BUS_STEP, 6, 0), changed(parts, (PROGRAM, 7, DATA, data)), start)
+        t.judge(f"the push has DATA {data}", six(7, BUS_STEP, 6), changed(parts, (PROGRAM, 7, DATA, data)), start)
 
 
 def late_push(t):
@@ -49,7 +51,7 @@ def late_push(t):
     _, steps, groups = oracle.table(program, memory, 0, 0, 32 * 256, 120 * 256)
     parts, rows = (program, memory, steps, groups), rows_of(groups, 120)
     t.judge("a push on row 254", ACCEPTED, parts, (0, 0))
-    t.judge("a push on row 254, no pull", (7, BUS_STEP, 254, 0), with_groups(parts, rows[1:] + rows[1:2]), (0, 0))
+    t.judge("a push on row 254, no pull", six(7, BUS_STEP, 254), with_groups(parts, rows[1:] + rows[1:2]), (0, 0))
 
 
 def several_flags(t):
@@ -65,11 +67,11 @@ def several_flags(t):
                               ("mul and peq", (0, 1, 1), one, some)):
         comp = cells[b:b + 5]
         head, tail = (group_row(s, flags, 1, a, b, b, 0, cells, comp) for s in (1, 0))
-        t.judge(f"{name} on a start row", (7, BUS_GROUP, 1, 0), with_groups(parts, [rows[0], head] + rows[2:]), start)
-        t.judge(f"{name} on a start row in front", (7, BUS_GROUP, 0, 0), with_groups(parts, [head] + rows), start)
+        t.judge(f"{name} on a start row", six(7, BUS_GROUP, 1), with_groups(parts, [rows[0], head] + rows[2:]), start)
+        t.judge(f"{name} on a start row in front", six(7, BUS_GROUP), with_groups(parts, [head] + rows), start)
         t.judge(f"{name} on a tail at the top", ACCEPTED, with_groups(parts, [tail] + rows), start)
     three = group_row(1, (1, 1, 1), 1, 100, 100, 100, 0, cells, (0,) * 5)
-    t.judge("all three", (6, 4, 0, 8), with_groups(parts, [three] + rows), start)
+    t.judge("all three", six(6, 4, 0, 8), with_groups(parts, [three] + rows), start)
 
 
 def let_pass(t, parts, start):
@@ -97,10 +99,10 @@ def let_pass(t, parts, start):
     t.judge("all groups at the end, one row long last", ACCEPTED, with_groups(parts, rows[9:] + rows[:9]), start)
     for first, last, rule in ((0, 2, 6), (2, 5, 7), (5, 7, 8)):
         late = rows[:first] + rows[last:] + rows[first:last]
-        t.judge(f"a group that ends on the last row: rule {rule}", (6, 4, 255, rule), with_groups(parts, late), start)
+        t.judge(f"a group that ends on the last row: rule {rule}", six(6, 4, 255, rule), with_groups(parts, late), start)
     program, memory = code_of(inst(data=oracle.data_word(ADD, 0, 2))), bytes_of(ZEROS)
     _, steps, groups = oracle.table(program, memory, 0, 0, 32 * 256, 120 * 256)
-    t.judge("the same on memory of zeros: rule 10", (6, 4, 255, 10), (program, memory, steps, groups[240:] + groups[:240]), (0, 0))
+    t.judge("the same on memory of zeros: rule 10", six(6, 4, 255, 10), (program, memory, steps, groups[240:] + groups[:240]), (0, 0))
 
 
 def several_faults(t, parts, start):
@@ -111,30 +113,43 @@ def several_faults(t, parts, start):
     def by_one(part, row, column):
         return moved(parts, part, row, column)
 
-    judged("words in parts 4 and 2", (2, 2, 255, 0), (EXT, 0, 0, P), (MEMORY, 255, 0, P))
-    judged("two words in part 3", (2, 3, 70, 0), (EXEC, 9, 0, P), (EXEC, 8, 6, P))
-    judged("word in part 4, malformed instruction", (2, 4, 7679, 0), (EXT, 255, 29, 2**32 - 1), (PROGRAM, 0, DATA, 1))
-    judged("malformed instructions 8 and 3, another start", (3, 1, 3, 0), (PROGRAM, 8, AUX, 3), (PROGRAM, 3, AUX, 3), start=(1, 40))
-    judged("another start and rule 2", (4, 0, 0, 0), by_one(EXEC, 0, VALUE_A), start=(0, 41))
-    judged("rule 4 on row 200, extension rule 18 on row 0", (5, 3, 200, 4), by_one(EXEC, 200, VALUE_C), by_one(EXT, 0, V_A_BASE))
-    judged("rule 2 on row 9, rule 4 on row 3", (5, 3, 3, 4), by_one(EXEC, 9, VALUE_A), by_one(EXEC, 3, VALUE_C))
-    judged("rules 3 and 15 on row 2", (5, 3, 2, 3), by_one(EXEC, 2, VALUE_B), by_one(EXEC, 3, PC))
-    judged("rules 15 and 16 on row 2", (5, 3, 2, 15), by_one(EXEC, 3, FP), by_one(EXEC, 3, PC))
-    judged("extension rules 18 on row 8, 16 on row 2", (6, 4, 2, 16), by_one(EXT, 8, V_A_BASE), by_one(EXT, 3, IDX_B))
-    judged("extension rules 21 and 1 on row 9", (6, 4, 9, 21), by_one(EXT, 9, RES), (EXT, 9, BE, 2))
-    judged("extension rules 1 and 5 on row 9", (6, 4, 9, 1), (EXT, 9, PEQS, 2), (EXT, 9, BE, 2))
-    judged("extension rule 17 on row 99, a push without a pull", (6, 4, 99, 17), by_one(EXT, 99, LEN), by_one(PROGRAM, 7, A))
+    def told(part, row, column, rule):
+        return six(part + 2, part, row, rule, *off_by_one(parts, part, row, column))
+
+    judged("words in parts 4 and 2", six(2, 2, 255), (EXT, 0, 0, P), (MEMORY, 255, 0, P))
+    judged("two words in part 3", six(2, 3, 70), (EXEC, 9, 0, P), (EXEC, 8, 6, P))
+    judged("word in part 4, malformed instruction", six(2, 4, 7679), (EXT, 255, 29, 2**32 - 1), (PROGRAM, 0, DATA, 1))
+    judged("malformed instructions 8 and 3, another start", six(3, 1, 3), (PROGRAM, 8, AUX, 3), (PROGRAM, 3, AUX, 3), start=(1, 40))
+    judged("another start and rule 2", six(4), by_one(EXEC, 0, VALUE_A), start=(0, 41))
+    judged("rule 4 on row 200, extension rule 18 on row 0", told(EXEC, 200, VALUE_C, 4), by_one(EXEC, 200, VALUE_C),
+           by_one(EXT, 0, V_A_BASE))
+    judged("rule 2 on row 9, rule 4 on row 3", told(EXEC, 3, VALUE_C, 4), by_one(EXEC, 9, VALUE_A), by_one(EXEC, 3, VALUE_C))
+    judged("rules 3 and 15 on row 2", told(EXEC, 2, VALUE_B, 3), by_one(EXEC, 2, VALUE_B), by_one(EXEC, 3, PC))
+    judged("rules 15 and 16 on row 2", six(5, 3, 2, 15), by_one(EXEC, 3, FP), by_one(EXEC, 3, PC))
+    judged("extension rules 18 on row 8, 16 on row 2", six(6, 4, 2, 16), by_one(EXT, 8, V_A_BASE), by_one(EXT, 3, IDX_B))
+    judged("extension rules 21 and 1 on row 9", told(EXT, 9, RES, 21), by_one(EXT, 9, RES), (EXT, 9, BE, 2))
+    judged("extension rules 1 and 5 on row 9", six(6, 4, 9, 1), (EXT, 9, PEQS, 2), (EXT, 9, BE, 2))
+    judged("extension rule 17 on row 99, a push without a pull", six(6, 4, 99, 17), by_one(EXT, 99, LEN), by_one(PROGRAM, 7, A))
+
+
+def told_of(parts, part, lookups, row, column):
+    """The answer where one is added to a value that is looked up; None for another column."""
+    for rule, (_, first, count) in lookups.items():
+        if first <= column < first + count:
+            return six(part + 2, part, row, rule, *off_by_one(parts, part, row, column))
+    return None
 
 
 def each_word(t, parts, start):
     """One is added to each word of some rows. Only be on padding is free."""
     for row in [*range(12), 255]:
         for column in range(8):
-            answer = t.judge(f"execution row {row}, column {column}", None, changed(parts, moved(parts, EXEC, row, column)), start)
-            assert answer[0] in (4, 5)
+            wanted, given = told_of(parts, EXEC, EXEC_LOOKUPS, row, column), changed(parts, moved(parts, EXEC, row, column))
+            assert t.judge(f"execution row {row}, column {column}", wanted, given, start)[0] in (4, 5)
     for row in [*range(10), 255]:
         for column in range(30):
-            answer = t.judge(f"extension row {row}, column {column}", None, changed(parts, moved(parts, EXT, row, column)), start)
+            wanted, given = told_of(parts, EXT, EXT_LOOKUPS, row, column), changed(parts, moved(parts, EXT, row, column))
+            answer = t.judge(f"extension row {row}, column {column}", wanted, given, start)
             assert answer[0] == (0 if row in (9, 255) and column == BE else 6)
 
 
@@ -152,6 +167,7 @@ def cases(t):
     parts, start = each_kind()
     let_pass(t, parts, start)
     trials_rules.cases(t, parts, start)
+    trials_lookups.cases(t, parts, start)
     late_push(t)
     buses(t, parts, start)
     several_faults(t, parts, start)

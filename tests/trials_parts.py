@@ -1,6 +1,6 @@
 """Parts for the cases of tests/trials.py: programs with operands in each mode and the memory that makes them run; changes to parts."""
 import oracle
-from oracle import ADD, MUL, P, PEQ, bytes_of, inst, words_of
+from oracle import ADD, MUL, P, PEQ, bytes_of, inst, six, words_of
 
 PROGRAM, MEMORY, EXEC, EXT = 1, 2, 3, 4
 WORDS = (12, 1, 8, 30)  # words in a row of each part
@@ -8,7 +8,10 @@ A, B, C, FA, FB, FC, FPC, FPAB, MUL_WORD, JUMP, AUX, DATA = range(12)
 PC, FP, ADDR_A, ADDR_B, ADDR_C, VALUE_A, VALUE_B, VALUE_C = range(8)
 START, ADDS, MULS, PEQS, LEN, IDX_A, IDX_B, IDX_R, BE, V_A_BASE = range(10)
 V_A, V_B, COMP, RES = 10, 15, 20, 25
-ACCEPTED = (0, 0, 0, 0)
+# rule to the columns of its address and of its first value, and how many cells it looks up
+EXEC_LOOKUPS = {2: (ADDR_A, VALUE_A, 1), 3: (ADDR_B, VALUE_B, 1), 4: (ADDR_C, VALUE_C, 1)}
+EXT_LOOKUPS = {18: (IDX_A, V_A_BASE, 1), 19: (IDX_A, V_A, 5), 20: (IDX_B, V_B, 5), 21: (IDX_R, RES, 5)}
+ACCEPTED = six(0)
 ZEROS = [0] * 256
 IMM, CELL, REL = "imm", "cell", "fp"
 
@@ -29,6 +32,11 @@ def word_at(parts, part, row, column):
 def moved(parts, part, row, column, by=1):
     """The change that adds to a word."""
     return part, row, column, (word_at(parts, part, row, column) + by) % P
+
+
+def off_by_one(parts, part, row, column):
+    """Expected and found where one was added to a value that is looked up: the word that stood there, and the new."""
+    return word_at(parts, part, row, column), moved(parts, part, row, column)[3]
 
 
 def with_groups(parts, rows):

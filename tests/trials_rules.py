@@ -2,26 +2,26 @@
 import itertools
 
 import oracle
-from oracle import P, bytes_of, inst, words_of
+from oracle import P, bytes_of, inst, six, words_of
 from trials_parts import (
     A, ADDR_A, ADDR_B, ADDR_C, ADDS, B, BE, C, COMP, EXEC, EXT, FP, IDX_A, IDX_B, IDX_R, LEN, MULS, PC, PEQS, PROGRAM, RES, START, V_A,
-    V_A_BASE, V_B, VALUE_A, VALUE_B, VALUE_C, ZEROS, changed, code_of, moved, word_at)
+    V_A_BASE, V_B, VALUE_A, VALUE_B, VALUE_C, ZEROS, changed, code_of, moved, off_by_one, word_at)
 
 
 def execution_rules(t, parts, start):
-    def refused(name, row, rule, *changes, start=start):
-        t.judge(name, (5, 3, row, rule), changed(parts, *changes), start)
+    def refused(name, row, rule, *changes, start=start, told=(0, 0)):
+        t.judge(name, six(5, 3, row, rule, *told), changed(parts, *changes), start)
 
     def by_one(part, row, column, by=1):
         return moved(parts, part, row, column, by)
 
-    end = len(parts[0]) // 48
+    end, cells = len(parts[0]) // 48, words_of(parts[1])
     refused("1: the first pc is past the program", 0, 1, (EXEC, 0, PC, end), start=(end, 40))
     refused("1: a jump past the program", 5, 1, (PROGRAM, 4, B, end), (EXEC, 5, PC, end))
     for rule, address, value, unused in ((2, ADDR_A, VALUE_A, 2), (3, ADDR_B, VALUE_B, 2), (4, ADDR_C, VALUE_C, 1)):
-        refused(f"{rule}: value of a read", 0, rule, by_one(EXEC, 0, value))
-        refused(f"{rule}: value of an unused operand", unused, rule, by_one(EXEC, unused, value))
-        refused(f"{rule}: another cell, with cell 0's value", 255, rule, (EXEC, 255, address, 255))
+        for what, row in (("a read", 0), ("an unused operand", unused)):
+            refused(f"{rule}: value of {what}", row, rule, by_one(EXEC, row, value), told=off_by_one(parts, EXEC, row, value))
+        refused(f"{rule}: another cell, with cell 0's value", 255, rule, (EXEC, 255, address, 255), told=(cells[255], cells[0]))
         for far in (256, 2**30, P - 1):  # 0 is what bytes past the end might be read as
             refused(f"{rule}: address {far} of a read", 0, rule, (EXEC, 0, address, far))
             refused(f"{rule}: unused address {far}, value 0", 255, rule, (EXEC, 255, address, far), (EXEC, 255, value, 0))
@@ -48,9 +48,9 @@ def last_row_rules(t):
     padding = b"".join([bytes_of((1, 0, 0, 0, 1) + (0,) * 25)] * 256)
     nothing, forth = inst(aux=1), inst(1, 0, fc=0, fpc=1, jump=1)
     for name, program, states, answer in (
-            ("13: back and forth", (nothing, forth), [(r % 2, 0) for r in range(256)], (5, 3, 255, 13)),
-            ("14: a frame further", (inst(1, 0, 1, fc=0, fpc=1, jump=1),), [(0, r) for r in range(256)], (5, 3, 255, 14)),
-            ("15: an ADD", (nothing,) * 256, [(r, 0) for r in range(256)], (5, 3, 255, 15))):
+            ("13: back and forth", (nothing, forth), [(r % 2, 0) for r in range(256)], six(5, 3, 255, 13)),
+            ("14: a frame further", (inst(1, 0, 1, fc=0, fpc=1, jump=1),), [(0, r) for r in range(256)], six(5, 3, 255, 14)),
+            ("15: an ADD", (nothing,) * 256, [(r, 0) for r in range(256)], six(5, 3, 255, 15))):
         steps = bytes_of([word for pc, fp in states for word in (pc, fp) + (0,) * 6])
         program = bytes_of([word for i in program for word in i])
         t.judge(f"the last row, {name}", answer, (program, bytes_of(ZEROS), steps, padding), (0, 0))
@@ -63,8 +63,8 @@ def element(row, column, words):
 
 def extension_refusals(t, parts, start):
     """Two functions that the extension rules' cases share: a refused case, and the change that adds to a word of a row."""
-    def refused(name, row, rule, *changes):
-        t.judge(name, (6, 4, row, rule), changed(parts, *changes), start)
+    def refused(name, row, rule, *changes, told=(0, 0)):
+        t.judge(name, six(6, 4, row, rule, *told), changed(parts, *changes), start)
 
     def by_one(row, column, by=1):
         return moved(parts, EXT, row, column, by)
@@ -76,11 +76,10 @@ def extension_lookups(t, parts, start):
     refused, by_one = extension_refusals(t, parts, start)
     cells = words_of(parts[1])
     for row, what in ((1, "in a group"), (9, "on padding"), (255, "on the last row")):
-        refused(f"18: vA base {what}", row, 18, by_one(row, V_A_BASE))
+        refused(f"18: vA base {what}", row, 18, by_one(row, V_A_BASE), told=off_by_one(parts, EXT, row, V_A_BASE))
     for k in range(5):
-        refused(f"19: vA {k}", 3, 19, by_one(3, V_A + k))
-        refused(f"20: vB {k}", 6, 20, by_one(6, V_B + k))
-        refused(f"21: res {k}", 8, 21, by_one(8, RES + k))
+        for rule, row, name, first in ((19, 3, "vA", V_A), (20, 6, "vB", V_B), (21, 8, "res", RES)):
+            refused(f"{rule}: {name} {k}", row, rule, by_one(row, first + k), told=off_by_one(parts, EXT, row, first + k))
     for first in (252, 255, 256, 2**30, P - 1):  # five cells run across the end; 0 is what bytes past it might be read as
         there = (cells[first:] + (0,) * 5)[:5]
         refused(f"vA from cell {first}", 9, 19 if first < 256 else 18, (EXT, 9, IDX_A, first), *element(9, V_A_BASE, there[:1] + there))
@@ -147,36 +146,40 @@ def execution_pairs(t, parts, start):
         if row != 4:
             faults.update({15: by_one(EXEC, row + 1, PC), 16: by_one(EXEC, row + 1, FP)})
         for first, second in itertools.combinations(faults, 2):
-            t.judge(f"{first} and {second} on row {row}", (5, 3, row, first), changed(parts, faults[first], faults[second]), start)
+            told = off_by_one(parts, EXEC, row, values[first]) if first in values else (0, 0)
+            t.judge(f"{first} and {second} on row {row}", six(5, 3, row, first, *told), changed(parts, faults[first], faults[second]),
+                    start)
 
 
 def extension_pairs(t, parts, start):
     """The same, in the order 18 to 21, 1 to 17."""
     _, by_one = extension_refusals(t, parts, start)
-    lookups = {18: by_one(9, V_A_BASE), 19: by_one(9, V_A), 20: by_one(9, V_B), 21: by_one(9, RES)}
-    padding = {**lookups, 1: (EXT, 9, BE, 2), 3: (EXT, 9, ADDS, 2), 4: (EXT, 9, MULS, 2), 5: (EXT, 9, PEQS, 2), 9: by_one(9, COMP),
+    values = {18: V_A_BASE, 19: V_A, 20: V_B, 21: RES}
+    padding = {**{rule: by_one(9, column) for rule, column in values.items()}, 1: (EXT, 9, BE, 2), 3: (EXT, 9, ADDS, 2), 4: (EXT, 9, MULS, 2), 5: (EXT, 9, PEQS, 2), 9: by_one(9, COMP),
                17: by_one(9, LEN)}
     group = {2: (EXT, 0, START, 2), 6: by_one(0, COMP), 10: by_one(0, LEN), 11: (EXT, 1, BE, 1), 12: (EXT, 1, ADDS, 0),
              13: (EXT, 1, MULS, 1), 14: (EXT, 1, PEQS, 1), 15: by_one(1, IDX_A), 16: by_one(1, IDX_B)}
     single = {6: (EXT, 7, ADDS, 1), 7: by_one(7, COMP), 8: (EXT, 7, PEQS, 1), 17: by_one(7, LEN)}
     for row, faults in ((9, padding), (0, group), (7, single)):
         for first, second in itertools.combinations(faults, 2):
-            t.judge(f"{first} and {second} on row {row}", (6, 4, row, first), changed(parts, faults[first], faults[second]), start)
+            told = off_by_one(parts, EXT, row, values[first]) if first in values else (0, 0)
+            t.judge(f"{first} and {second} on row {row}", six(6, 4, row, first, *told), changed(parts, faults[first], faults[second]),
+                    start)
 
 
 def starts_of_two(t, parts, start):
     """The next row's start is neither 0 nor 1: the polynomials decide, before that row's own rule 2."""
     program, memory = code_of(), bytes_of(ZEROS)
     plain = (program, memory) + oracle.table(program, memory, 0, 0, 32 * 256, 120 * 256)[1:]
-    t.judge("start 2 on padding, next to padding", (6, 4, 8, 10), changed(plain, (EXT, 9, START, 2)), (0, 0))
-    t.judge("start 2 on padding of length 0: rule 2 itself", (6, 4, 9, 2),
+    t.judge("start 2 on padding, next to padding", six(6, 4, 8, 10), changed(plain, (EXT, 9, START, 2)), (0, 0))
+    t.judge("start 2 on padding of length 0: rule 2 itself", six(6, 4, 9, 2),
             changed(plain, (EXT, 9, START, 2), (EXT, 9, LEN, 0), (EXT, 9, IDX_A, 5), (EXT, 9, IDX_B, 5)), (0, 0))
-    t.judge("start 2 on the last row", (6, 4, 254, 10), changed(plain, (EXT, 255, START, 2)), (0, 0))
+    t.judge("start 2 on the last row", six(6, 4, 254, 10), changed(plain, (EXT, 255, START, 2)), (0, 0))
     for row, rule in ((1, 6), (3, 7), (6, 8)):
-        t.judge(f"start 2 within a group: rule {rule}", (6, 4, row - 1, rule), changed(parts, (EXT, row, START, 2)), start)
+        t.judge(f"start 2 within a group: rule {rule}", six(6, 4, row - 1, rule), changed(parts, (EXT, row, START, 2)), start)
     comp = [(EXT, 1, COMP + k, -word_at(parts, EXT, 1, COMP + k) % P) for k in range(5)]
-    t.judge("start 2 and comp negated: rule 6 holds", (6, 4, 0, 17), changed(parts, (EXT, 1, START, 2), *comp), start)
-    t.judge("the last row has start 0", (6, 4, 255, 10),
+    t.judge("start 2 and comp negated: rule 6 holds", six(6, 4, 0, 17), changed(parts, (EXT, 1, START, 2), *comp), start)
+    t.judge("the last row has start 0", six(6, 4, 255, 10),
             changed(plain, (EXT, 254, LEN, 2), (EXT, 255, START, 0), (EXT, 255, IDX_A, 5), (EXT, 255, IDX_B, 5)), (0, 0))
 
 

@@ -1,6 +1,6 @@
 """The tabler's cases: each way to be stuck, room, runs that stay or not, wrapping, each mode, and makers' recipes."""
 import oracle
-from oracle import ADD, MUL, P, PEQ, bytes_of, ext, inst
+from oracle import ADD, MUL, P, PEQ, bytes_of, ext, inst, six
 from trials_parts import ACCEPTED, ZEROS, code_of, each_mode
 
 NOTHING = inst(aux=1)  # 0 + 0 = 0
@@ -12,7 +12,7 @@ KINDS = {"ADD": {"aux": 1}, "MUL": {"mul": 1}, "DEREF": {"aux": 2, "fa": 0}, "JU
 
 
 def stuck(rule, row=0):
-    return 9, 0, row, rule
+    return six(9, 0, row, rule)
 
 
 def to(dest, further=0):
@@ -98,14 +98,14 @@ def ends(t):
     tabled(t, "a jump out of the program", stuck(1, 1), [out])
     tabled(t, "a jump out to p - 1", stuck(1, 4), [NOTHING] * 3 + [to(P - 1)])
     for height in (256, 512):
-        last = (11, 0, height - 1, 0)
+        last = six(11, 0, height - 1)
         tabled(t, f"a jump out on row {height - 1}", last, [NOTHING] * (height - 1) + [out], height=height)
         tabled(t, f"a jump out on row {height - 2}", stuck(1, height - 1), [NOTHING] * (height - 2) + [out], height=height)
         tabled(t, f"the jump to itself on row {height}", last, [NOTHING] * height, height=height)
         tabled(t, f"the jump to itself on row {height - 1}", ACCEPTED, [NOTHING] * (height - 1), height=height)
         tabled(t, f"back and forth, {height} rows", last, [to(1), to(0)], height=height)
-    tabled(t, "to itself, a frame further", (11, 0, 255, 0), [to(0, further=1)])
-    tabled(t, "to itself, but the condition is 0 later", (11, 0, 255, 0), [inst(0, 0, 1, fa=0, fc=0, fpc=1, jump=1)] + [NOTHING] * 9,
+    tabled(t, "to itself, a frame further", six(11, 0, 255), [to(0, further=1)])
+    tabled(t, "to itself, but the condition is 0 later", six(11, 0, 255), [inst(0, 0, 1, fa=0, fc=0, fpc=1, jump=1)] + [NOTHING] * 9,
            with_cells({k: 1 for k in range(250)}))
 
 
@@ -143,7 +143,7 @@ def results(t):
 def rooms(t):
     """ROOM: the lengths so far, plus 1, are at most K; STUCK comes first in a row, and earlier rows come first."""
     def room(row):
-        return 10, 0, row, 0
+        return six(10, 0, row)
 
     tabled(t, "K - 1 rows in 5 groups", ACCEPTED, [ext(ADD, 0, 51)] * 5)
     tabled(t, "K rows in 5 groups and 1", room(5), [ext(ADD, 0, 51)] * 5 + [ext(ADD, 0, 1)])
@@ -159,7 +159,7 @@ def rooms(t):
     tabled(t, "N 2^20 by addresses near p: STUCK", stuck(7), [ext(MUL, 0, 2**20, P - 1, P - 1, P - 1)])
     tabled(t, "ROOM, and a row later STUCK", room(2), [NOTHING, ext(ADD, 0, 200), ext(ADD, 0, 56), inst(2, jump=1, fc=0)], [0] * 1024)
     tabled(t, "STUCK, and a row later ROOM", stuck(6, 1), [ext(ADD, 0, 200), inst(2, jump=1, fc=0), ext(ADD, 0, 56)], [0] * 1024)
-    tabled(t, "a loop with a group of 1 in each turn: OPEN", (11, 0, 255, 0), [ext(ADD, 0, 1), to(0)])
+    tabled(t, "a loop with a group of 1 in each turn: OPEN", six(11, 0, 255), [ext(ADD, 0, 1), to(0)])
     tabled(t, "a loop with a group of 3 in each turn: ROOM", room(170), [ext(ADD, 0, 3), to(0)])
 
 
