@@ -59,7 +59,14 @@ static uint32_t operation_rules(const form *f, const exec_row *row,
     return 0;
 }
 
-static second_answer judge_exec(const parts *in)
+/* The first row that breaks a rule, and the first rule that it breaks; 0 is
+ * none.  Two words are all that the loops over the rows have to give. */
+typedef struct {
+    uint64_t row;
+    uint32_t rule;
+} broken;
+
+static broken judge_exec(const parts *in)
 {
     exec_row row = load_exec(in->exec);
     for (uint64_t r = 0; r < in->exec_rows; r++) {
@@ -67,16 +74,16 @@ static second_answer judge_exec(const parts *in)
         if (r + 1 < in->exec_rows)
             next = load_exec(in->exec + EXEC_BYTES * (r + 1));
         if (row.pc >= in->instructions)
-            return answer(EXEC, 3, r, 1);
+            return (broken){ r, 1 };
         form f = form_at(in, row.pc);
         uint32_t rule = operand_rules(in, &f, &row);
         if (rule == 0)
             rule = operation_rules(&f, &row, &next);
         if (rule != 0)
-            return answer(EXEC, 3, r, rule);
+            return (broken){ r, rule };
         row = next;
     }
-    return answer(ACCEPTED, 0, 0, 0);
+    return (broken){ 0, 0 };
 }
 
 static uint32_t lookup_rules(const parts *in, const ext_row *row)
@@ -176,7 +183,7 @@ static uint32_t group_rules(const ext_row *row, const ext_row *next)
     return 0;
 }
 
-static second_answer judge_ext(const parts *in)
+static broken judge_ext(const parts *in)
 {
     ext_row row = load_ext(in->ext);
     for (uint64_t r = 0; r < in->ext_rows; r++) {
@@ -191,9 +198,20 @@ static second_answer judge_ext(const parts *in)
         if (rule == 0)
             rule = group_rules(&row, &next);
         if (rule != 0)
-            return answer(EXTENSION, 4, r, rule);
+            return (broken){ r, rule };
         row = next;
     }
+    return (broken){ 0, 0 };
+}
+
+static second_answer judge_rows(const parts *in)
+{
+    broken exec = judge_exec(in);
+    if (exec.rule != 0)
+        return second_exec_answer(in, exec.row, exec.rule);
+    broken ext = judge_ext(in);
+    if (ext.rule != 0)
+        return second_ext_answer(in, ext.row, ext.rule);
     return answer(ACCEPTED, 0, 0, 0);
 }
 
@@ -206,9 +224,7 @@ static second_answer judge_parts(const parts *in, uint64_t pc, uint64_t fp,
         && (load_word(in->exec) != pc || load_word(in->exec + 4) != fp))
         out = answer(START, 0, 0, 0);
     if (out.verdict == ACCEPTED)
-        out = judge_exec(in);
-    if (out.verdict == ACCEPTED)
-        out = judge_ext(in);
+        out = judge_rows(in);
     if (out.verdict == ACCEPTED)
         out = second_bus(in, sorted);
     return out;

@@ -38,7 +38,7 @@ typedef struct {
 static inline second_answer answer(uint32_t verdict, uint32_t part,
                                    uint64_t place, uint32_t rule)
 {
-    second_answer out = { verdict, part, (uint32_t)place, rule };
+    second_answer out = { verdict, part, (uint32_t)place, rule, 0, 0 };
     return out;
 }
 
@@ -152,6 +152,10 @@ second_answer second_sizes(size_t program_len, size_t memory_len,
                            size_t exec_len, size_t ext_len);
 second_answer second_words(uint32_t part, const uint8_t *bytes, size_t len);
 second_answer second_forms(const parts *in);
+
+/* lookup.c: EXEC and EXTENSION of row r by a rule that it breaks. */
+second_answer second_exec_answer(const parts *in, uint64_t r, uint32_t rule);
+second_answer second_ext_answer(const parts *in, uint64_t r, uint32_t rule);
 
 /* bus.c: BUS, by counting or by sorting where one order does not do. */
 second_answer second_bus(const parts *in, bool sorted);

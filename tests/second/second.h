@@ -10,9 +10,11 @@
 #include <stddef.h>
 #include <stdint.h>
 
-/* The four numbers of document 01; unnamed ones are 0. */
+/* The four numbers of document 01 and the two of M-104; unnamed ones are 0.
+ * Of a lookup whose cells are all there, expected is the word of the first cell
+ * that differs and found the word that the table has for it. */
 typedef struct {
-    uint32_t verdict, part, place, rule;
+    uint32_t verdict, part, place, rule, expected, found;
 } second_answer;
 
 /* What a label names: the maker's seed, memory of 2^m cells, n instructions,
