@@ -6,10 +6,11 @@
 #include <string.h>
 
 #include "library.h"
+#include "lookups.h"
 #include "thread.h"
 #include "versions.h"
 
-enum { ANSWER_BYTES = 16, WRITTEN_BYTES = 8 };
+enum { WRITTEN_BYTES = 8 };
 
 _Static_assert(UISNABAR_ANSWER_BYTES == ANSWER_BYTES
                && UISNABAR_RECIPE_BYTES == RECIPE_BYTES
@@ -145,8 +146,7 @@ static second_answer second_answers(const attempt *t, const slot *s, given *out)
     }
 }
 
-/* Which slot the answer is in. */
-static int answer_slot(enum function f)
+int answer_slot(enum function f)
 {
     static const int slots[FUNCTIONS] = {
         [JUDGE] = 4, [LABEL_READER] = 1, [TABLER] = 4, [MAKER] = 2,
@@ -184,12 +184,18 @@ static void store_number(uint8_t *to, uint64_t number)
     store_word(to + 4, (uint32_t)(number >> 32));
 }
 
+void store_answer(uint8_t to[ANSWER_BYTES], second_answer a)
+{
+    const uint32_t numbers[NUMBERS] = { a.verdict, a.part, a.place, a.rule,
+                                        a.expected, a.found };
+    for (int i = 0; i < NUMBERS; i++)
+        store_word(to + 4 * i, numbers[i]);
+}
+
 /* The mirrors of what a call tells, where all lengths fit. */
 static void tell(enum function f, const slot *s, second_answer a, given g)
 {
-    const uint32_t four[4] = { a.verdict, a.part, a.place, a.rule };
-    for (int i = 0; i < 4; i++)
-        store_word(s[answer_slot(f)].mirror + 4 * i, four[i]);
+    store_answer(s[answer_slot(f)].mirror, a);
     if (f == LABEL_READER && a.verdict == ACCEPTED) {
         store_number(s[2].mirror, g.read.seed);
         store_word(s[2].mirror + 8, g.read.m);
@@ -205,14 +211,14 @@ static void tell(enum function f, const slot *s, second_answer a, given g)
 static second_answer wanted(const attempt *t, const slot *s, uint32_t *returned)
 {
     bool fit = lengths_fit(t->function, s);
-    second_answer a = { ANSWER, 0, 0, 0 };
+    second_answer a = { .verdict = ANSWER };
     given g = { { 0, 0, 0, 0 }, 0, 0 };
     if (fit || is_probe(t->function))
         a = second_answers(t, s, &g);
     if (fit)
         tell(t->function, s, a, g);
     else
-        a = (second_answer){ ANSWER, 0, 0, 0 };
+        a = (second_answer){ .verdict = ANSWER };
     *returned = t->function == LABEL_WRITER ? g.length : a.verdict;
     return a;
 }
@@ -221,7 +227,7 @@ static void print_answer(const char *who, uint32_t returned, size_t len,
                          const uint8_t *bytes)
 {
     printf("  %s: returned %" PRIu32, who, returned);
-    for (size_t i = 0; len == ANSWER_BYTES && i < 4; i++)
+    for (size_t i = 0; len == ANSWER_BYTES && i < NUMBERS; i++)
         printf("%s %" PRIu32, i == 0 ? ", answer" : "",
                load_word(bytes + 4 * i));
     printf("\n");
@@ -267,7 +273,9 @@ second_answer compare(differ *d, const attempt *t)
         call_library(&c);
     second_answer a = wanted(t, d->slots, &want);
     tally_add(&d->reached, t->function, a);
+    tally_length(&d->reached, t->function, t->lent[answer_slot(t->function)].len);
     count_versions(&d->reached.versions, t, a);
+    count_lookup(&d->reached.lookups, t, a);
     bool same = c.returned == want;
     for (int i = 0; i < SLOTS; i++)
         same = same && slot_fault(&d->slots[i], &at) == NULL;

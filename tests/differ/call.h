@@ -6,7 +6,8 @@
 #include "lend.h"
 #include "tally.h"
 
-enum { SLOTS = 6, FULL_DIFFERENCES = 10, RECIPE_BYTES = 20 };
+enum { SLOTS = 6, FULL_DIFFERENCES = 10, NUMBERS = 6, ANSWER_BYTES = 4 * NUMBERS,
+       RECIPE_BYTES = 20 };
 
 /* A buffer at entry; bytes NULL stands for random bytes. */
 typedef struct {
@@ -52,6 +53,12 @@ static inline bool more_calls(const differ *d)
 {
     return d->calls - d->extra < d->limit;
 }
+
+/* Which slot the answer is in. */
+int answer_slot(enum function f);
+
+/* The answer's bytes. */
+void store_answer(uint8_t to[ANSWER_BYTES], second_answer a);
 
 /* Calls both, compares everything, counts what was reached; gives the second's
  * answer.  The slots then hold what the library left. */

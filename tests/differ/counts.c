@@ -8,7 +8,7 @@
 #include "grids.h"
 #include "library.h"
 
-enum { GRID_SLOT = PARTS, COUNT_ANSWER, ANSWER_BYTES = 16 };
+enum { GRID_SLOT = PARTS, COUNT_ANSWER };
 enum { R_GRID, R_TEXT, R_WRITTEN, R_ANSWER, WRITTEN_BYTES = 8 };
 enum { LONGEST = 5076 }; /* 135 lines of twenty digits each */
 

@@ -1,6 +1,6 @@
 /* Execution tables with something else in them.  A damage that leaves some
  * rules whole is what reaches the later ones. */
-#include "world.h"
+#include "lookups.h"
 
 #include <inttypes.h>
 #include <string.h>
@@ -61,6 +61,11 @@ static void move_lookup(differ *d, world *w)
     follow_exec(w, row);
     note(d, "; exec row %" PRIu32 " looks up %" PRIu32 " at %" PRIu32, row,
          column, get(w, EXECUTION, row, column));
+}
+
+static void change_lookup(differ *d, world *w)
+{
+    damage_lookup(d, w, EXECUTION, some_row(d, w));
 }
 
 static void swap_rows(differ *d, world *w)
@@ -139,7 +144,7 @@ void damage_exec(differ *d, world *w)
 {
     static void (*const damages[])(differ *, world *) = {
         change_word, change_word, change_word, move_lookup, move_lookup,
-        swap_rows, drop_row, repeat_row, move_start, rewrite_cell,
+        change_lookup, swap_rows, drop_row, repeat_row, move_start, rewrite_cell,
         rewrite_cell, rewrite_cell, spoil_step, spoil_step, change_height
     };
     damages[below(&d->random, sizeof damages / sizeof *damages)](d, w);

@@ -5,6 +5,7 @@
 #include <inttypes.h>
 
 #include "groups.h"
+#include "lookups.h"
 
 static void follow_five(world *w, uint32_t row, uint32_t index, uint32_t to)
 {
@@ -92,6 +93,11 @@ static void move_lookup(differ *d, world *w)
          get(w, EXTENSIONS, row, column));
 }
 
+static void change_lookup(differ *d, world *w)
+{
+    damage_lookup(d, w, EXTENSIONS, some_ext_row(d, w));
+}
+
 static void swap_rows(differ *d, world *w)
 {
     uint32_t one = some_ext_row(d, w), other = some_ext_row(d, w);
@@ -151,8 +157,8 @@ void damage_ext(differ *d, world *w)
 {
     static void (*const damages[])(differ *, world *) = {
         change_word, change_word, change_word, change_value, change_flag,
-        change_flag, move_lookup, move_lookup, swap_rows, sly_start,
-        sly_tail, sly_tail,
+        change_flag, move_lookup, move_lookup, change_lookup, swap_rows,
+        sly_start, sly_tail, sly_tail,
         damage_groups, damage_groups, damage_groups, damage_groups,
         damage_groups, damage_groups
     };

@@ -174,7 +174,7 @@ void try_forms(differ *d)
     if (second_tables(&all).verdict != ACCEPTED)
         differs(d, "the second has no tables of such a program");
     memset(&counted, 0, sizeof counted);
-    count_world(d, &all, SECOND_GRID_BYTES, 16, &counted);
+    count_world(d, &all, SECOND_GRID_BYTES, ANSWER_BYTES, &counted);
     if (memcmp(&counted, &made, sizeof made) != 0)
         differs(d, "the grid is not what the program was made of");
     report_grid(d, &counted);

@@ -15,18 +15,11 @@ typedef struct {
     uint32_t verdict; /* both must give it */
 } expected;
 
-static void put_answer(uint8_t out[16], second_answer a)
-{
-    store_word(out, a.verdict);
-    store_word(out + 4, a.part);
-    store_word(out + 8, a.place);
-    store_word(out + 12, a.rule);
-}
-
 /* The library's count gives the same answer, and from a fresh grid all rows or none. */
-static bool counts(const speed_input *in, const uint8_t *ext, const uint8_t answer[16], const uint8_t mirror[SECOND_GRID_BYTES])
+static bool counts(const speed_input *in, const uint8_t *ext, const uint8_t answer[ANSWER_BYTES],
+                   const uint8_t mirror[SECOND_GRID_BYTES])
 {
-    uint8_t told[16] = {0}, bytes[SECOND_GRID_BYTES] = {0};
+    uint8_t told[ANSWER_BYTES] = {0}, bytes[SECOND_GRID_BYTES] = {0};
     uint32_t verdict = uisnabar_count(in->program, in->program_len, in->memory, in->memory_len, 0, 0, in->exec, in->exec_len, ext,
                                       in->ext_len, bytes, sizeof bytes, told, sizeof told);
     grid g;
@@ -39,17 +32,35 @@ static bool counts(const speed_input *in, const uint8_t *ext, const uint8_t answ
  * grid has the judge's answer, so the second judges once. */
 static bool judge_both(const speed_input *in, const uint8_t *ext, expected e)
 {
-    uint8_t first[16] = {0}, second[16], mirror[SECOND_GRID_BYTES] = {0};
+    uint8_t first[ANSWER_BYTES] = {0}, second[ANSWER_BYTES], mirror[SECOND_GRID_BYTES] = {0};
     uint32_t verdict = uisnabar_judge(in->program, in->program_len, in->memory, in->memory_len, 0, 0, in->exec, in->exec_len, ext,
                                       in->ext_len, first, sizeof first);
     second_answer a = second_count_sorted(in->program, in->program_len, in->memory, in->memory_len, 0, 0, in->exec, in->exec_len, ext,
                                           in->ext_len, mirror);
-    put_answer(second, a);
+    store_answer(second, a);
     bool good = verdict == a.verdict && verdict == e.verdict && memcmp(first, second, sizeof first) == 0;
     bool counted = counts(in, ext, second, mirror);
     printf("large, %s: verdict %" PRIu32 ", second %" PRIu32 " part %" PRIu32 " place %" PRIu32 "%s%s\n", e.name, verdict, a.verdict, a.part,
            a.place, good ? "" : ": DIFFERENCE", counted ? "" : ": DIFFERENCE IN THE COUNT");
     return good && counted;
+}
+
+/* The last words of both tables are off, and the last row looks up the last cells. */
+static bool lookups_both(const speed_input *in)
+{
+    uint8_t *exec = in->exec + in->exec_len - 32, *ext = in->ext + in->ext_len - 120, before[2][120];
+    memcpy(before[0], exec, 32);
+    memcpy(before[1], ext, 120);
+    store_word(exec + 4 * ADDR_C, (uint32_t)in->cells - 1);
+    store_word(exec + 4 * VALUE_C, P - 1);
+    store_word(ext + 4 * X_IDX_R, (uint32_t)in->cells - 5);
+    memcpy(ext + 4 * X_RES, in->memory + 4 * (in->cells - 5), 20);
+    store_word(ext + 4 * (X_RES + 4), P - 1);
+    bool good = judge_both(in, in->ext, (expected){"the last execution row looks up the last cell", EXEC});
+    memcpy(exec, before[0], 32);
+    good &= judge_both(in, in->ext, (expected){"the last extension row looks up the last cells", EXTENSION});
+    memcpy(ext, before[1], 120);
+    return good;
 }
 
 static bool try_size(unsigned height_log)
@@ -60,6 +71,7 @@ static bool try_size(unsigned height_log)
     printf("large: H 2^%u, K 2^%u\n", height_log, height_log - 2);
     bool good = tabled == ACCEPTED;
     good &= judge_both(&in, in.ext, (expected){"in order", ACCEPTED});
+    good &= lookups_both(&in);
     speed_shuffle(&in, 2);
     good &= judge_both(&in, in.shuffled, (expected){"shuffled", ACCEPTED});
     /* a late group once more, in the place of another */

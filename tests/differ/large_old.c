@@ -36,15 +36,15 @@ static bool translate_both(large *l, const char *name, uint32_t verdict,
                            uint32_t place)
 {
     size_t old_len = (size_t)OLD_UNIT * l->count, len = unit_of(PROGRAM) * l->count;
-    uint8_t answer[16] = { 0 };
+    uint8_t answer[ANSWER_BYTES] = { 0 }, wanted[ANSWER_BYTES];
     memset(l->program, FILL, len);
     memset(l->mirror, FILL, len);
     uint32_t returned = uisnabar_translate(l->old, old_len, l->program, len,
                                            answer, sizeof answer);
     second_answer a = second_translate(l->old, old_len, l->mirror, len);
+    store_answer(wanted, a);
     bool good = returned == verdict && a.verdict == verdict && a.place == place
-             && load_word(answer) == a.verdict && load_word(answer + 4) == a.part
-             && load_word(answer + 8) == a.place && load_word(answer + 12) == a.rule
+             && memcmp(answer, wanted, sizeof wanted) == 0
              && memcmp(l->program, l->mirror, len) == 0;
     printf("large, %" PRIu32 " old instructions, %s: verdict %" PRIu32 ", second %"
            PRIu32 " place %" PRIu32 "%s\n", l->count, name, returned, a.verdict,

@@ -5,7 +5,7 @@
 #include "../../include/uisnabar.h"
 
 /* For tests only; a slice passes as pointer and length.  The first two return
- * the verdict, the writer the length written.  An answer buffer that is not 16
+ * the verdict, the writer the length written.  An answer buffer that is not 24
  * bytes keeps its bytes and the verdict returned is ANSWER's, but the work is
  * done all the same. */
 uint32_t probe_table(const uint8_t *program, size_t program_len,

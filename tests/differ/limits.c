@@ -23,8 +23,8 @@ static void try_limit(differ *d, enum function f, int part, size_t count,
         t.lent[i] = (buffer){ bytes[i], 256 * unit_of(i), false };
     store_word(bytes[PROGRAM], P);
     t.lent[part] = (buffer){ zeros, unit_of(part) * count, true };
-    t.lent[PARTS].len = f == COUNT ? SECOND_GRID_BYTES : 16;
-    t.lent[PARTS + 1].len = f == COUNT ? 16 : 0;
+    t.lent[PARTS].len = f == COUNT ? SECOND_GRID_BYTES : ANSWER_BYTES;
+    t.lent[PARTS + 1].len = f == COUNT ? ANSWER_BYTES : 0;
     note_back(d, 0);
     note(d, "part %d with %zu of %zu bytes", part + 1, count, unit_of(part));
     compare(d, &t);
@@ -37,7 +37,7 @@ static void try_old_limit(differ *d, size_t count, uint8_t *zeros)
     t.lent[0] = (buffer){ zeros, OLD_UNIT * count, true };
     t.lent[1] = (buffer){ zeros + OLD_UNIT * count, unit_of(PROGRAM) * count,
                           true };
-    t.lent[2].len = 16;
+    t.lent[2].len = ANSWER_BYTES;
     note_back(d, 0);
     note(d, "%zu old instructions of zeros", count);
     compare(d, &t);

@@ -1,8 +1,8 @@
 /* Compares the library with the second implementation, call by call.
  *
  *   differ SEED CALLS             stops after that many calls, counts, reports,
- *                                 translations and the lists of versions.c
- *                                 not among them
+ *                                 translations and the lists of versions.c,
+ *                                 lookups.c and answers.c not among them
  *   differ SEED 0 SECONDS         stops after that long
  *   differ --page SEED CALLS      buffers at pages that fault, small stack
  *   differ --large                a few tables of 16,383 and of 32,767 groups,
@@ -18,6 +18,7 @@
 #include <string.h>
 #include <time.h>
 
+#include "lookups.h"
 #include "tries.h"
 #include "versions.h"
 
@@ -64,6 +65,8 @@ static void run(differ *d, uint64_t seconds)
     try_limits(d);
     try_every_old(d);
     try_versions(d);
+    try_lookups(d);
+    try_answers(d);
     for (uint32_t turn = 0; more_calls(d)
          && (seconds == 0 || seconds_now() - from < (double)seconds); turn++)
         one_turn(d, turn);
@@ -90,7 +93,7 @@ int main(int argc, char **argv)
         return usage();
     printf("seed %" PRIu64 "\n", seed);
     if (!differ_open(&all, seed, paged) || !rounds_open() || !forms_open()
-        || !old_runs_open()) {
+        || !lookups_open() || !old_runs_open()) {
         fprintf(stderr, "differ: no room\n");
         return 2;
     }
@@ -103,7 +106,7 @@ int main(int argc, char **argv)
     end_campaign(&all);
     bool complete = tally_report(&all.reached);
     printf("calls: %" PRIu64 ", and %" PRIu64 " of counts, reports, "
-           "translations and versions\ndifferences: %" PRIu64 "\n",
+           "translations and lists\ndifferences: %" PRIu64 "\n",
            all.calls - all.extra, all.extra, all.differences);
     return complete && all.differences == 0 ? 0 : 1;
 }

@@ -6,7 +6,7 @@
 #include "olds.h"
 #include "tries.h"
 
-enum { ANSWER_BYTES = 16, ROWS = 256, STYLES = 3 };
+enum { ROWS = 256, STYLES = 3 };
 
 static world run; /* its program is the library's translation */
 static uint8_t bytes[OLD_UNIT * MAX_OLDS];
@@ -50,11 +50,11 @@ static second_answer old_run(old_tally *t, const olds *o, size_t len,
                                         run.len[MEMORY], &now);
         tally_step(t, o, states[row], rule);
         if (rule != 0)
-            return (second_answer){ STUCK, 0, row, rule };
+            return (second_answer){ .verdict = STUCK, .place = row, .rule = rule };
     }
     if (memcmp(&now, &states[ROWS - 1], sizeof now) == 0)
-        return (second_answer){ ACCEPTED, 0, 0, 0 };
-    return (second_answer){ OPEN, 0, ROWS - 1, 0 };
+        return (second_answer){ .verdict = ACCEPTED };
+    return (second_answer){ .verdict = OPEN, .place = ROWS - 1 };
 }
 
 /* Each row of the library's table has the old machine's state. */

@@ -24,8 +24,9 @@ static const char *const case_names[OLD_CASES] = {
     [PROGRAM_LENGTH] = "program's length",
     [BOTH_LENGTHS] = "both lengths, one instruction less",
     [ANSWER_0] = "answer of 0 bytes",
-    [ANSWER_15] = "answer of 15 bytes",
-    [ANSWER_17] = "answer of 17 bytes",
+    [ANSWER_16] = "answer of 16 bytes",
+    [ANSWER_23] = "answer of 23 bytes",
+    [ANSWER_25] = "answer of 25 bytes",
 };
 
 static void print_form(uint32_t form)

@@ -20,8 +20,8 @@ enum { REASONS = 28 };
 enum old_case { ONE_INSTRUCTION, LEFT_PROGRAM, RUN_STAYED, RUN_OPEN,
                 WORD_BEHIND_EDITION, WORD_FIRST, WORD_LAST, SIZE_FIRST,
                 EDITION_LAST, NO_OLD, NO_PROGRAM, NEITHER, OLD_LENGTH,
-                PROGRAM_LENGTH, BOTH_LENGTHS, ANSWER_0, ANSWER_15, ANSWER_17,
-                OLD_CASES };
+                PROGRAM_LENGTH, BOTH_LENGTHS, ANSWER_0, ANSWER_16, ANSWER_23,
+                ANSWER_25, OLD_CASES };
 
 typedef struct {
     uint64_t translated[OLD_FORMS];

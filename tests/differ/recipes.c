@@ -41,8 +41,8 @@ second_recipe some_recipe(source *random, bool in_range)
 
 size_t some_answer_length(source *random)
 {
-    static const size_t lengths[] = { 0, 15, 17, 1, 32, 8 };
-    return once_in(random, 12) ? lengths[below(random, 6)] : 16;
+    return once_in(random, 12) ? answer_lengths[below(random, ANSWER_LENGTHS)]
+                               : ANSWER_BYTES;
 }
 
 size_t some_recipe_length(source *random)

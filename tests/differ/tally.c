@@ -14,6 +14,8 @@ static const char *const verdict_names[VERDICTS] = {
     "EDITION"
 };
 
+const size_t answer_lengths[ANSWER_LENGTHS] = { 0, 16, 20, 23, 25, 48 };
+
 static const char *const case_names[GRID_CASES] = {
     [FRESH_COUNTED] = "fresh grid counted",
     [CARRIED] = "carry past 32 bits",
@@ -83,6 +85,12 @@ void tally_add(tally *t, enum function f, second_answer a)
         count(t->place, LAST_PLACE, a.place);
 }
 
+void tally_length(tally *t, enum function f, size_t answer_len)
+{
+    for (int i = 0; i < ANSWER_LENGTHS; i++)
+        t->lengths[f][i] += answer_len == answer_lengths[i];
+}
+
 typedef struct {
     const char *name;
     const uint64_t *table;
@@ -136,16 +144,37 @@ static void print_cases(const tally *t)
     printf("\n");
 }
 
+static void print_lengths(const tally *t)
+{
+    for (int f = 0; f < FUNCTIONS; f++) {
+        printf("%s's other answer buffers:", function_names[f]);
+        for (int i = 0; i < ANSWER_LENGTHS; i++)
+            printf(" %zu:%" PRIu64, answer_lengths[i], t->lengths[f][i]);
+        printf("\n");
+    }
+}
+
+/* Verdicts and lengths of the answer that a function did not meet. */
+static uint32_t print_missing_of(const tally *t, int f, uint32_t missing)
+{
+    for (int v = 0; v < VERDICTS; v++)
+        if (expected[f][v] && t->verdicts[f][v] == 0)
+            printf("%s %s's %s", missing++ == 0 ? "" : ",", function_names[f],
+                   verdict_names[v]);
+    for (int i = 0; i < ANSWER_LENGTHS; i++)
+        if (t->lengths[f][i] == 0)
+            printf("%s %s's answer of %zu bytes", missing++ == 0 ? "" : ",",
+                   function_names[f], answer_lengths[i]);
+    return missing;
+}
+
 /* The list of what is missing; gives its length. */
 static uint32_t print_missing(const tally *t, const line lines[LINES])
 {
     uint32_t missing = 0;
     printf("not reached:");
     for (int f = 0; f < FUNCTIONS; f++)
-        for (int v = 0; v < VERDICTS; v++)
-            if (expected[f][v] && t->verdicts[f][v] == 0)
-                printf("%s %s's %s", missing++ == 0 ? "" : ",",
-                       function_names[f], verdict_names[v]);
+        missing = print_missing_of(t, f, missing);
     for (int i = 0; i < LINES; i++)
         for (uint32_t k = lines[i].first; k <= lines[i].last; k++)
             if (lines[i].table[k] == 0)
@@ -170,8 +199,10 @@ bool tally_report(const tally *t)
         printf("\n");
     }
     print_cases(t);
+    print_lengths(t);
     bool complete = print_missing(t, lines) == 0;
     complete = forms_report(t->forms) && complete;
+    complete = lookup_report(&t->lookups) && complete;
     complete = version_report(&t->versions) && complete;
     return old_report(&t->olds) && complete;
 }

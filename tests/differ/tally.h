@@ -5,6 +5,7 @@
 #include <stdbool.h>
 
 #include "../second/second.h"
+#include "lookup_tally.h"
 #include "old_tally.h"
 #include "version_tally.h"
 
@@ -17,6 +18,11 @@ enum { ACCEPTED, SIZE, WORD, INSTRUCTION, START, EXEC, EXTENSION, BUS, LABEL,
 
 enum { LAST_EXEC_RULE = 16, LAST_EXT_RULE = 21, LAST_STUCK_RULE = 8,
        LAST_SIZE_PART = 5, LAST_PART = 4 };
+
+/* Other lengths of the answer's buffer that each function must be tried with;
+ * 16 bytes had the four numbers that there were once. */
+enum { ANSWER_LENGTHS = 6 };
+extern const size_t answer_lengths[ANSWER_LENGTHS];
 
 /* What counts and reports must meet besides verdicts; names are in tally.c. */
 enum grid_case { FRESH_COUNTED, CARRIED, LIMIT_TAKEN, LIMIT_PASSED, SUM_WRAPS,
@@ -31,15 +37,18 @@ typedef struct {
     uint64_t stuck[LAST_STUCK_RULE + 1], bus[LAST_PART + 1];
     uint64_t size[FUNCTIONS][LAST_SIZE_PART + 1], word[FUNCTIONS][LAST_PART + 1];
     uint64_t place[LAST_PLACE + 1];
+    uint64_t lengths[FUNCTIONS][ANSWER_LENGTHS];
     uint64_t cases[GRID_CASES];
     uint64_t forms[SECOND_COUNTERS]; /* rows that the library counted */
     old_tally olds;
     version_tally versions;
+    lookup_tally lookups;
 } tally;
 
 extern const char *const function_names[FUNCTIONS];
 
 void tally_add(tally *t, enum function f, second_answer a);
+void tally_length(tally *t, enum function f, size_t answer_len);
 
 /* forms.c: prints how many of the possible forms have rows, and which not; true
  * if all of them have and no other has. */

@@ -6,7 +6,7 @@
 #include "olds.h"
 #include "tries.h"
 
-enum { ANSWER_BYTES = 16, CELLS = 256, TRANSLATABLE = 27 };
+enum { CELLS = 256, TRANSLATABLE = 27 };
 enum { CHOICES = 11, EVERY = 177147 }; /* three for each word but operands */
 
 /* Room for one instruction more, so that longer lengths can be tried. */
@@ -61,7 +61,7 @@ static void try_reason(differ *d, job *j, uint32_t reason)
 {
     uint32_t at = spoil_edition(d, j, reason);
     second_answer a = translate(d, j);
-    second_answer wanted = { EDITION, 0, at, 0 };
+    second_answer wanted = { .verdict = EDITION, .place = at };
     if (memcmp(&a, &wanted, sizeof a) != 0)
         differs(d, "an instruction that is not translatable has another answer");
     d->reached.olds.reasons[reason]++;
@@ -91,7 +91,7 @@ static void try_word(differ *d, job *j)
         edition = spoil_edition(d, j, below(&d->random, REASONS));
     uint32_t first = spoil_words(d, j);
     second_answer a = translate(d, j);
-    second_answer wanted = { WORD, 1, first, 0 };
+    second_answer wanted = { .verdict = WORD, .part = 1, .place = first };
     if (memcmp(&a, &wanted, sizeof a) != 0)
         differs(d, "a word at or above p has another answer");
     cases[WORD_FIRST] += first == 0;
@@ -150,8 +150,8 @@ static void try_lengths(differ *d, job *j, uint32_t way)
 /* ANSWER comes before all that may be wrong besides. */
 static void try_answer_lengths(differ *d, job *j)
 {
-    static const size_t lengths[] = { 0, 15, 17, 32 };
-    uint32_t way = below(&d->random, 4);
+    static const size_t lengths[] = { 0, 16, 23, 25, 32 };
+    uint32_t way = below(&d->random, 5);
     j->answer_len = lengths[way];
     if (once_in(&d->random, 2))
         spoil_edition(d, j, below(&d->random, REASONS));
@@ -160,7 +160,7 @@ static void try_answer_lengths(differ *d, job *j)
     note(d, "; answer of %zu bytes", j->answer_len);
     if (translate(d, j).verdict != ANSWER)
         differs(d, "another length of the answer has another answer");
-    if (way < 3)
+    if (way < 4)
         d->reached.olds.cases[ANSWER_0 + way]++;
 }
 

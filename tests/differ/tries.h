@@ -26,6 +26,9 @@ void report_grid(differ *d, const grid *g);
 /* Whether the campaign's total is the rows of what was accepted. */
 void end_campaign(differ *d);
 
+/* answers.c: each function with answer buffers of other lengths. */
+void try_answers(differ *d);
+
 /* forms.c: a program that has every form, against the numbers it was made of. */
 bool forms_open(void);
 void try_forms(differ *d);

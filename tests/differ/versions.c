@@ -6,8 +6,7 @@
 #include "seeds.h"
 #include "tries.h"
 
-enum { ANSWER_BYTES = 16, VERSION_AT = 2, LEAST_TEXT = 35, MOST_TEXT = 37,
-       CELLS = 32 };
+enum { VERSION_AT = 2, LEAST_TEXT = 35, MOST_TEXT = 37, CELLS = 32 };
 
 /* ---- counting ---- */
 

@@ -72,11 +72,11 @@ void world_make(differ *d, world *w)
          count_of(w, EXTENSIONS));
 }
 
-/* Mostly 16, now and then another. */
+/* Mostly the right one, now and then another. */
 static size_t answer_length(source *random)
 {
-    static const size_t lengths[] = { 0, 15, 17, 1, 32 };
-    return once_in(random, 24) ? lengths[below(random, 5)] : 16;
+    return once_in(random, 24) ? answer_lengths[below(random, ANSWER_LENGTHS)]
+                               : ANSWER_BYTES;
 }
 
 attempt attempt_on(differ *d, enum function f, const world *w)

@@ -3,16 +3,20 @@
 
 #include <stdio.h>
 #include <stdlib.h>
+#include <string.h>
 
 #include "../differ/library.h"
 #include "../second/second.h"
 
-static uint8_t answer[16], recipe[20], grid[SECOND_GRID_BYTES];
+static uint8_t answer[UISNABAR_ANSWER_BYTES], recipe[UISNABAR_RECIPE_BYTES], grid[SECOND_GRID_BYTES];
 
 void expect(uint32_t verdict, uint32_t wanted, const char *what)
 {
+    uint32_t n[6];
     if (verdict != wanted) {
-        printf("%s has another answer: verdict %u, part %u, place %u, rule %u\n", what, answer[0], answer[4], answer[8], answer[12]);
+        memcpy(n, answer, sizeof n);
+        printf("%s has another answer: verdict %u, part %u, place %u, rule %u, expected %u, found %u\n", what, n[0], n[1], n[2], n[3],
+               n[4], n[5]);
         exit(1);
     }
 }
@@ -23,13 +27,11 @@ static void put_word(uint8_t *at, uint32_t word)
         at[k] = (uint8_t)(word >> 8 * k);
 }
 
-/* the second implementation's answer in 16 bytes, as the library's calls fill them */
+/* the second implementation's answer in bytes, as the library's calls fill them: x86-64 has the lowest byte first */
 static uint32_t told(second_answer a)
 {
-    put_word(answer, a.verdict);
-    put_word(answer + 4, a.part);
-    put_word(answer + 8, a.place);
-    put_word(answer + 12, a.rule);
+    _Static_assert(sizeof a == sizeof answer, "six numbers of four bytes");
+    memcpy(answer, &a, sizeof a);
     return a.verdict;
 }
 

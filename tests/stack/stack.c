@@ -14,8 +14,8 @@ enum { ROOM = 256 << 10, PAINT = 0xa5, GROUP = 4 * 120 };
 
 static uint8_t *stack;
 static speed_input in, old;
-static uint8_t answer[16], recipe[20], text[64], grid[UISNABAR_GRID_BYTES], report_text[UISNABAR_REPORT_BYTES];
-static uint8_t written[8];
+static uint8_t answer[UISNABAR_ANSWER_BYTES], recipe[UISNABAR_RECIPE_BYTES], text[64], grid[UISNABAR_GRID_BYTES];
+static uint8_t report_text[UISNABAR_REPORT_BYTES], written[UISNABAR_WRITTEN_BYTES];
 static int above; /* a call that is exported used more than the header says */
 
 static void *nothing(void *ext)
@@ -101,10 +101,30 @@ static size_t most(size_t a, size_t b)
     return a > b ? a : b;
 }
 
+/* With another word in a table, which a lookup must tell. */
+static size_t off_by_one(void *(*work)(void *), uint8_t *word, uint8_t verdict)
+{
+    *word ^= 1;
+    size_t used = touched(work, in.ext);
+    *word ^= 1;
+    if (answer[0] != verdict) {
+        printf("no lookup was refused\n");
+        exit(2);
+    }
+    return used;
+}
+
+/* On the last rows: a lookup of one cell, and one of five. */
+static size_t over_lookups(void *(*work)(void *))
+{
+    size_t used = off_by_one(work, in.exec + in.exec_len - 4, UISNABAR_EXEC);
+    return most(used, off_by_one(work, in.ext + in.ext_len - 4, UISNABAR_EXTENSION));
+}
+
 /* Tables in order, in another order, and with one group in the place of another, so that the bus takes every way. */
 static size_t over_tables(void *(*work)(void *))
 {
-    size_t used = touched(work, in.ext);
+    size_t used = most(touched(work, in.ext), over_lookups(work));
     speed_shuffle(&in, 2);
     used = most(used, touched(work, in.shuffled));
     memcpy(in.shuffled + (size_t)GROUP * 900, in.shuffled + (size_t)GROUP * 1200, GROUP);
