@@ -5,9 +5,17 @@ ghost use Rattle.answer.specs.Verdicts.{six, numbersOf, accepted};
 // A case for each verdict, in the paper's order, with what the paper names in it.
 pub enum Answer {
     Accepted,
-    Size { part: u32, place: u32 },
-    Word { part: u32, place: u32 },
-    Instruction { place: u32 },
+    Size {
+        part: u32,
+        place: u32,
+    },
+    Word {
+        part: u32,
+        place: u32,
+    },
+    Instruction {
+        place: u32,
+    },
     Start,
     Exec {
         row: u32,
@@ -21,15 +29,29 @@ pub enum Answer {
         expected: u32,
         found: u32,
     },
-    Bus { part: u32, row: u32 },
-    Label { place: u32 },
-    Stuck { row: u32, rule: u32 },
-    Room { row: u32 },
-    Open { row: u32 },
+    Bus {
+        part: u32,
+        row: u32,
+    },
+    Label {
+        place: u32,
+    },
+    Stuck {
+        row: u32,
+        rule: u32,
+    },
+    Room {
+        row: u32,
+    },
+    Open {
+        row: u32,
+    },
     Itself,
     Buffer,
     Grid,
-    Edition { place: u32 },
+    Edition {
+        place: u32,
+    },
 }
 
 // An answer as the paper counts it. What a verdict does not name is 0.

@@ -13,8 +13,8 @@ use Rattle.rules.specs.declared.Found.{Found}
 use Rattle.rules.specs.Sizes.{wordOf}
 use Rattle.rules.specs.Lookups.{finding, differing, foundBy}
 use Rattle.judge_lookups.specs.Memory.{cellOf, cellIs}
-use Rattle.judge_lookups.specs.declared.lookup.Cell.{Cell}
-use Rattle.judge_lookups.specs.declared.lookup.Cell.the-variants.{Word, Outside}
+use Rattle.judge_lookups.specs.declared.Cell.{Cell}
+use Rattle.judge_lookups.specs.declared.Cell.the-variants.{Word, Outside}
 
 abbrev there : Cell → Bool
 there (Word w) = true

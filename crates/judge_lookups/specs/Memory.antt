@@ -8,8 +8,8 @@ use lib.ListN.{length}
 use lib.Dec.{ltb, eqb}
 use Rattle.word.specs.Bytes.{wordAt}
 use Rattle.word.specs.Element.{_⟨_⟩}
-use Rattle.judge_lookups.specs.declared.lookup.Cell.{Cell}
-use Rattle.judge_lookups.specs.declared.lookup.Cell.the-variants.{Word, Outside}
+use Rattle.judge_lookups.specs.declared.Cell.{Cell}
+use Rattle.judge_lookups.specs.declared.Cell.the-variants.{Word, Outside}
 
 abbrev pub cellOf : List ℕ → ℕ → Cell
 cellOf memory addr = cond (ltb addr (length memory / 4)) (Word (wordAt memory (4 * addr))) Outside

@@ -1,5 +1,5 @@
 // What a lookup that fails found: document 02, M-104.
-use crate::lookup::Cell;
+use crate::Cell;
 use crate::lookup::cell_inside;
 use crate::lookup::look;
 use rules::Found;

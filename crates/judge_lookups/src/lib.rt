@@ -13,6 +13,12 @@ ghost use Prim.Native.Nat.{_<_};
 ghost use Rattle.rules.specs.Given.{zero?, next};
 ghost use Rattle.word.specs.Word.{_-ₚ_, _*ₚ_};
 
+// What stands in a cell, or that there is no such cell.
+pub enum Cell {
+    Word(u32),
+    Outside,
+}
+
 // A gate times what must be 0 where it is open. Most gates are shut, and in a table that is accepted the two are equal:
 // then nothing is computed.
 pub fn gated(gate: u32, x: u32, y: u32) -> bool

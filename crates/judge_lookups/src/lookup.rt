@@ -1,4 +1,5 @@
 // Lookups into the memory. The judge reads a cell in `cell_inside` alone; the rules of a row compare.
+use crate::Cell;
 use word::word_inside;
 ghost use mathlib.Core.Path.{_≡_};
 ghost use Prim.Native.Nat.{_/_, _<_};
@@ -12,12 +13,6 @@ pub(crate) fn cell_inside(memory: &[u8], addr: usize) -> u32
     ensures { λ r. ⌜ r ≡ wordOf (now (memory .entry)) addr ⌝ }
 {
     word_inside(memory, 4 * addr)
-}
-
-// What stands in a cell, or that there is no such cell.
-pub enum Cell {
-    Word(u32),
-    Outside,
 }
 
 pub(crate) fn look(memory: &[u8], addr: usize) -> Cell

@@ -49,22 +49,30 @@ module _ (bytes : List ℕ) (words : Words bytes) where
   unfolding execAt
   exec-columns r h =
       let value : (j at : ℕ) → j < 8 → 4 * (8 * r + j) ≡ at → IsWord (wordAt bytes at) =
-      λ j at small e. word-in (8 * r + j) at e (omega arith) in
-      ((value 5 _ (omega arith) (omega arith), tt),
-      ((value 6 _ (omega arith) (omega arith), tt), ((value 7 _ (omega arith) (omega arith), tt), tt)))
+      λ j at small e. word-in (8 * r + j) at e (omega arith) in (
+        (value 5 _ (omega arith) (omega arith), tt),
+        ((value 6 _ (omega arith) (omega arith), tt), ((value 7 _ (omega arith) (omega arith), tt), tt)),
+      )
 
   five-words : (k at : ℕ) → 4 * k ≡ at → k + 4 < length bytes / 4 → AreWords (fiveWords (fiveAt bytes at))
   unfolding fiveAt
   five-words k at e h = (
     word-in k at e (omega arith),
-    (word-in (k + 1) (at + 4) (omega arith) (omega arith),
-    (word-in (k + 2) (at + 8) (omega arith) (omega arith),
-    (word-in (k + 3) (at + 12) (omega arith) (omega arith), (word-in (k + 4) (at + 16) (omega arith) h, tt)))),
+    (
+      word-in (k + 1) (at + 4) (omega arith) (omega arith),
+      (
+        word-in (k + 2) (at + 8) (omega arith) (omega arith),
+        (word-in (k + 3) (at + 12) (omega arith) (omega arith), (word-in (k + 4) (at + 16) (omega arith) h, tt)),
+      ),
+    ),
   )
 
   pub ext-columns : (r : ℕ) → r < length bytes / 120 → Columns (extLookups (extAt bytes (120 * r)))
   unfolding extAt
-  ext-columns r h =
-      ((word-in (30 * r + 9) _ (omega arith) (omega arith), tt),
-      (five-words (30 * r + 10) _ (omega arith) (omega arith),
-      (five-words (30 * r + 15) _ (omega arith) (omega arith), (five-words (30 * r + 25) _ (omega arith) (omega arith), tt))))
+  ext-columns r h = (
+    (word-in (30 * r + 9) _ (omega arith) (omega arith), tt),
+    (
+      five-words (30 * r + 10) _ (omega arith) (omega arith),
+      (five-words (30 * r + 15) _ (omega arith) (omega arith), (five-words (30 * r + 25) _ (omega arith) (omega arith), tt)),
+    ),
+  )

@@ -1,6 +1,6 @@
--- The judge's answer as it was before document 02's M-104: 5 EXEC and 6 EXTENSION name a row and a rule, and say nothing
--- of what stood there. Every other test is `judgeOf`'s.
--- Declared in src/: Numbers, Answer (answer).
+-- The judge's answer as it was before document 02's M-104: 5 EXEC and 6 EXTENSION name a row and a rule, and say
+-- nothing of what stood there. Every other test is `judgeOf`'s.
+-- Declared in src/: Answer (answer).
 use Prim.Native.Nat.{ℕ}
 use mathlib.Core.List.{List, [], _∷_}
 use lib.ListN.{length}
