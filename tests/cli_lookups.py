@@ -129,7 +129,6 @@ def no_lookups():
         write(now)
         status, out, told = run("judge", "--pc", str(at[0]), "--fp", str(at[1]), *FILES)
         check(f"{name}: no lookup", (status, out, told.endswith(said + "\n")), (1, shelf.six_lines(answer), True))
-        check(f"{name}: the last lines", out.endswith(b"expected=0\nfound=0\n"), True)
 
 
 def in_one_file():
@@ -139,8 +138,8 @@ def in_one_file():
     pathlib.Path("none").unlink(missing_ok=True)
     for words in (("judge", "tables"), ("count", "none", "tables")):
         status, out, said = run(*words)
-        check(f"{words}: an example", (status, out[-32:], said.endswith("; cell 0 holds 335903614, value B is 335903489\n")),
-              (1, b"expected=335903614\nfound=335903489\n"[-32:], True))
+        check(f"{words}: an example", (status, out.endswith(b"\nexpected=335903614\nfound=335903489\n"), said.endswith("; cell 0 holds 335903614, value B is 335903489\n")),
+              (1, True, True))
 
 
 GROUPS = (one_cell, other_cells, five_cells, far, far_of_five, no_lookups, in_one_file)

@@ -31,6 +31,7 @@ EDITS = [
     ("another cell than the first that differs", RULES + "Lookups.antt", r"\(finding \(cell addr\) v\)", "(finding (cell (addr + 1)) v)"),
     ("found told where a cell is out of range", RULES + "Lookups.antt", r"leb \(addr \+ length column\) size", "leb (addr + 1) size"),
     ("found told of a rule that is no lookup", RULES + "Lookups.antt", r"lookup 4 \(", "lookup 5 ("),
+    ("a lookup left out", RULES + "Lookups.antt", r"\n    ∷ lookup 4 .*", ""),
     ("padding with comp 0", "crates/tables/specs/Groups.antt", r"(?s)(padding cell =.*?)comp = elementAt cell 0", r"\1comp = 0 ∷ 0 ∷ 0 ∷ 0 ∷ 0 ∷ []"),
     ("C not read on an untaken jump", "crates/machine/specs/Step.antt", r"asked 4 \(legal m s \(f \.c\)\)", "asked 4 (legalC m s f (f .kind))"),
     ("a bad condition told as a false equation", "crates/machine/specs/Step.antt", r"asked 6 \(", "asked 5 ("),

@@ -118,6 +118,22 @@ def edits(write):
             yield "docs/CLAIMS.md lists other edits than there are: tests/pages.py write"
 
 
+def fitting():
+    """Every edit still fits the code that it is to spoil."""
+    for edit in sorted(ROOT.glob("crates/*/m*/*.edit")):
+        texts = {}
+        for key, value in re.findall(r"^(file|old|new): ?(.*)$", edit.read_text(), re.M):
+            if key == "file":
+                name = edit.parts[-3] + "/" + value
+                texts.setdefault(name, (ROOT / "crates" / name).read_text())
+            elif key == "old":
+                old = value
+                if old not in texts[name]:
+                    yield f"{edit.relative_to(ROOT)}: {old} is not in {name}"
+            else:
+                texts[name] = texts[name].replace(old, value)
+
+
 def cited():
     """An edit that docs/CLAIMS.md cites stands behind the word that says who tries it, and in that one's folder."""
     text = (ROOT / "docs/CLAIMS.md").read_text()
@@ -137,7 +153,7 @@ def cited():
 
 def main(argv):
     write = argv[1:] == ["write"]
-    faults = [*prose(), *comments(), *definitions(write), *named(), *edits(write), *cited()]
+    faults = [*prose(), *comments(), *definitions(write), *named(), *edits(write), *fitting(), *cited()]
     for fault in faults:
         print(fault)
     drawn = subprocess.run([ROOT / "tools/wings", "write" if write else "check"], check=False).returncode

@@ -155,7 +155,8 @@ def extension_pairs(t, parts, start):
     """The same, in the order 18 to 21, 1 to 17."""
     _, by_one = extension_refusals(t, parts, start)
     values = {18: V_A_BASE, 19: V_A, 20: V_B, 21: RES}
-    padding = {**{rule: by_one(9, column) for rule, column in values.items()}, 1: (EXT, 9, BE, 2), 3: (EXT, 9, ADDS, 2), 4: (EXT, 9, MULS, 2), 5: (EXT, 9, PEQS, 2), 9: by_one(9, COMP),
+    padding = {**{rule: by_one(9, column) for rule, column in values.items()},
+               1: (EXT, 9, BE, 2), 3: (EXT, 9, ADDS, 2), 4: (EXT, 9, MULS, 2), 5: (EXT, 9, PEQS, 2), 9: by_one(9, COMP),
                17: by_one(9, LEN)}
     group = {2: (EXT, 0, START, 2), 6: by_one(0, COMP), 10: by_one(0, LEN), 11: (EXT, 1, BE, 1), 12: (EXT, 1, ADDS, 0),
              13: (EXT, 1, MULS, 1), 14: (EXT, 1, PEQS, 1), 15: by_one(1, IDX_A), 16: by_one(1, IDX_B)}

@@ -1,5 +1,6 @@
 // The stages after the sizes, each an early answer or the next stage. The program and each table are walked once, and
-// what a walk found is the answer when its stage comes. A start is 64 bits wide and is compared whole.
+// what a walk found, a word, a row and its rule, is answered when its stage comes; only then is it asked what stood
+// there. A start is 64 bits wide and is compared whole.
 use crate::bus::bus_answer;
 use answer::Answer;
 use inputs::first_word;

@@ -38,7 +38,7 @@ fn picked(flag: u32, fp_flag: u32, operand: u32, addr: u32, value: u32, fp: u32)
 }
 
 // Rules 2 to 4.
-fn found(memory: &[u8], x: Exec) -> bool
+fn lookups_hold(memory: &[u8], x: Exec) -> bool
     ensures { λ r. ⌜ (r ≡ true → (rest : ℕ) → lookupsThen (now (memory .entry)) x rest ≡ rest) ⌝ }
 {
     if !looks_up(memory, x.addrA as usize, x.valueA) {
@@ -93,7 +93,7 @@ pub(crate) fn exec_holds(memory: &[u8], x: Exec, y: Exec, i: Instruction) -> boo
     if (2130706433 <= a) | (2130706433 <= b) | (2130706433 <= c) {
         return false;
     }
-    if !found(memory, x) {
+    if !lookups_hold(memory, x) {
         return false;
     }
     if !operated(i, x, a, b, c) {

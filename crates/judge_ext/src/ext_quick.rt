@@ -15,7 +15,7 @@ ghost use Rattle.rules.specs.Extension.{selected, compTail};
 ghost use Rattle.judge_ext.specs.ExtParts.{extLookupsThen, bitsThen, samesThen, stepsThen, accumulatesThen, extFails};
 
 // Rules 18 to 21.
-fn found(memory: &[u8], x: Ext) -> bool
+fn lookups_hold(memory: &[u8], x: Ext) -> bool
     ensures { λ r. ⌜ (r ≡ true → (rest : ℕ) → extLookupsThen (now (memory .entry)) x rest ≡ rest) ⌝ }
 {
     let left = x.vA;
@@ -83,7 +83,7 @@ fn followed(x: Ext, y: Ext) -> bool
 pub(crate) fn others_hold(memory: &[u8], x: Ext, y: Ext) -> bool
     ensures { λ r. ⌜ (r ≡ true → extFails (now (memory .entry)) x y ≡ accumulatesThen x y (selected x) (compTail y) 0) ⌝ }
 {
-    if !found(memory, x) {
+    if !lookups_hold(memory, x) {
         return false;
     }
     if !all_bits(x) {

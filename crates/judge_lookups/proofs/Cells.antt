@@ -1,9 +1,9 @@
 -- A cell as a lookup gives it: a word where it is there, and else nothing.
 -- Assumes nothing.
-use borrow.Author.Tests.{ltb-true, ltb-false, lt-ltb, le-ltb, le-leb, lt-leb}
+use borrow.Author.Tests.{ltb-true, ltb-false, lt-ltb, le-ltb, le-leb, lt-leb, not-true, not-false}
 use mathlib.Core.Path.{_≡_, refl, sym, ap, _∙_}
-use mathlib.Core.Bool.{Bool, true, false, cond, true≢false}
-use mathlib.Core.List.{List, [], _∷_}
+use mathlib.Core.Bool.{Bool, true, false, cond, not}
+use mathlib.Core.List.{List}
 use Prim.Native.Nat.{ℕ, _+_, _/_, _≤_, _<_}
 use native.Mathlib.Omega.{arith}
 use lib.Dec.{ltb, eqb}
@@ -25,6 +25,13 @@ held (Word w) = w
 held Outside = 0
 
 module _ (memory : List ℕ) (k : ℕ) where
+  -- what the test of a cell tells
+  pub cell-there : {b : Bool} → b ≡ ltb k (length memory / 4) → not b ≡ false → k < length memory / 4
+  cell-there {b} e t = ltb-true k (length memory / 4) (sym e ∙ not-false b t)
+
+  pub cell-gone : {b : Bool} → b ≡ ltb k (length memory / 4) → not b ≡ true → length memory / 4 ≤ k
+  cell-gone {b} e t = ltb-false k (length memory / 4) (sym e ∙ not-true b t)
+
   there-is : there (cellOf memory k) ≡ ltb k (length memory / 4)
   there-is = by (ltb k (length memory / 4))
     where

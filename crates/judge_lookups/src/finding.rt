@@ -2,6 +2,7 @@
 use crate::Cell;
 use crate::lookup::cell_inside;
 use crate::lookup::look;
+use crate::lookup::there;
 use rules::Found;
 ghost use mathlib.Core.Path.{_≡_};
 ghost use mathlib.Core.Bool.{cond};
@@ -56,14 +57,12 @@ pub fn found_five(memory: &[u8], addr: u32, a: [u32; 5]) -> Found
     ensures { λ r. ⌜ r ≡ foundBy (length (now (memory .entry)) / 4) (wordOf (now (memory .entry))) addr (fiveWords a) ⌝ }
 {
     let at = addr as usize;
-    match look(memory, at + 4) {
-        Cell::Word(last) => {
-            let fifth = compared(last, a[4], nothing());
-            let fourth = compared_at(memory, at + 3, a[3], fifth);
-            let third = compared_at(memory, at + 2, a[2], fourth);
-            let second = compared_at(memory, at + 1, a[1], third);
-            compared_at(memory, at, a[0], second)
-        }
-        Cell::Outside => nothing(),
+    if !there(memory, at + 4) {
+        return nothing();
     }
+    let fifth = compared_at(memory, at + 4, a[4], nothing());
+    let fourth = compared_at(memory, at + 3, a[3], fifth);
+    let third = compared_at(memory, at + 2, a[2], fourth);
+    let second = compared_at(memory, at + 1, a[1], third);
+    compared_at(memory, at, a[0], second)
 }

@@ -1,11 +1,20 @@
-// Lookups into the memory. The judge reads a cell in `cell_inside` alone; the rules of a row compare.
+// Lookups into the memory: the rules of a row ask `there` and `cell_inside` alone for a cell, and compare. (WORD walks
+// the whole memory before them.)
 use crate::Cell;
 use word::word_inside;
 ghost use mathlib.Core.Path.{_≡_};
 ghost use Prim.Native.Nat.{_/_, _<_};
+ghost use lib.Dec.{ltb};
 ghost use lib.ListN.{length};
 ghost use Rattle.rules.specs.Sizes.{wordOf};
 ghost use Rattle.judge_lookups.specs.Memory.{cellOf, cellIs, cellsAre};
+
+// Whether there is such a cell.
+pub(crate) fn there(memory: &[u8], addr: usize) -> bool
+    ensures { λ r. ⌜ r ≡ ltb addr (length (now (memory .entry)) / 4) ⌝ }
+{
+    addr < memory.len() / 4
+}
 
 // The word of a cell that is there.
 pub(crate) fn cell_inside(memory: &[u8], addr: usize) -> u32
@@ -18,7 +27,7 @@ pub(crate) fn cell_inside(memory: &[u8], addr: usize) -> u32
 pub(crate) fn look(memory: &[u8], addr: usize) -> Cell
     ensures { λ r. ⌜ r ≡ cellOf (now (memory .entry)) addr ⌝ }
 {
-    if memory.len() / 4 <= addr {
+    if !there(memory, addr) {
         return Cell::Outside;
     }
     Cell::Word(cell_inside(memory, addr))
@@ -39,7 +48,7 @@ pub fn looks_up_five(memory: &[u8], addr: u32, a: [u32; 5]) -> bool
     ensures { λ r. ⌜ r ≡ cellsAre (now (memory .entry)) addr a ⌝ }
 {
     let at = addr as usize;
-    if memory.len() / 4 <= at + 4 {
+    if !there(memory, at + 4) {
         return false;
     }
     (a[0] == cell_inside(memory, at))

@@ -20,19 +20,15 @@ use Rattle.rules.specs.Given.{Given, looksUp, looksUpFive, Rule, rule}
 use Rattle.rules.specs.Execution.{execRules}
 use Rattle.rules.specs.Extension.{extRules}
 use Rattle.rules.specs.Lookups.{Lookup, execLookups, extLookups, finding, differing, foundBy, foundUnder}
-use Rattle.judge_spec.specs.Refusal.{FirstFailing, Differs, Silent, OutOfRange, Stood}
-
--- whether the rules under a number hold
-abbrev under : List Rule → ℕ → Bool
-under [] n = true
-under (r ∷ rs) n = cond (eqb (r .number) n) (r .holds && under rs n) (under rs n)
+use Rattle.judge_spec.specs.Refusal.{FirstFailing, Differs, OutOfRange, Stood}
+use Rattle.judge_spec.specs.Shown.{under, agrees, Covers}
 
 stays-false : (b holds : Bool) {c : Bool} → c ≡ false → cond b (holds && c) c ≡ false
 stays-false true true e = e
 stays-false true false e = refl
 stays-false false holds e = e
 
--- those under the number that is named do not
+-- the rules under the number that is named do not hold
 under-fails : (before after : List Rule) (n : ℕ) → under (before ++ (rule n false ∷ after)) n ≡ false
 under-fails [] after n = rw (eqb-same n)
 under-fails (r ∷ rs) after n = stays-false (eqb (r .number) n) (r .holds) (under-fails rs after n)
@@ -41,11 +37,6 @@ named-fails : (rs : List Rule) (n : ℕ) → FirstFailing rs n → under rs n �
 named-fails rs n f = ap (λ (l : List Rule). under l n) (f .split) ∙ under-fails (f .before) (f .after) n
 
 module _ (g : Given) where
-  -- a column against its cells, one after the other
-  abbrev agrees : ℕ → List ℕ → Bool
-  agrees addr [] = true
-  agrees addr (v ∷ vs) = looksUp g addr v && agrees (addr + 1) vs
-
   module _ (addr v : ℕ) (vs : List ℕ) where
     here : addr + length (v ∷ vs) ≤ g .size → (v ≡ g .cell addr → ⊥) → Differs g addr (v ∷ vs) (g .cell addr) v
     here range other =
@@ -76,12 +67,12 @@ module _ (g : Given) where
         earlier (suc j) h = d .before j (omega arith) ∙ ap (g .cell) (omega arith)
 
   -- a column that fails where every cell is below M has a word that differs
-  differs : (addr : ℕ) (column : List ℕ) → addr + length column ≤ g .size → agrees addr column ≡ false
+  differs : (addr : ℕ) (column : List ℕ) → addr + length column ≤ g .size → agrees g addr column ≡ false
       → Differs g addr column (differing (g .cell) addr column .expected) (differing (g .cell) addr column .found)
   differs addr [] range bad = absurd (true≢false bad)
   differs addr (v ∷ vs) range bad = by (differs (addr + 1) vs (omega arith)) (eqb v (g .cell addr)) refl
     where
-      by : (let f = differing (g .cell) (addr + 1) vs in agrees (addr + 1) vs ≡ false → Differs g (addr + 1) vs (f .expected) (f .found))
+      by : (let f = differing (g .cell) (addr + 1) vs in agrees g (addr + 1) vs ≡ false → Differs g (addr + 1) vs (f .expected) (f .found))
           → (b : Bool) → eqb v (g .cell addr) ≡ b
           → (let f = cond b (differing (g .cell) (addr + 1) vs) (finding (g .cell addr) v) in Differs g addr (v ∷ vs) (f .expected) (f .found))
       by on true e = later addr v vs (eqb-true v (g .cell addr) e) (on (rw (lt-ltb addr (g .size) (omega arith), e) at bad))
@@ -102,7 +93,7 @@ module _ (g : Given) where
       (found-at (addr + 1) vs k (omega arith) (λ j h. before (suc j) (omega arith) ∙ ap (g .cell) (omega arith)) (rw at at other))
 
   -- what is found of a column whose rule fails
-  fails-so : (addr : ℕ) (column : List ℕ) → agrees addr column ≡ false
+  fails-so : (addr : ℕ) (column : List ℕ) → agrees g addr column ≡ false
       → (let f = foundBy (g .size) (g .cell) addr column in
       Differs g addr column (f .expected) (f .found) ⊎ OutOfRange g addr column (f .expected) (f .found))
   unfolding foundBy
@@ -126,12 +117,7 @@ module _ (g : Given) where
   out-is addr column o =
       rw (lt-leb (addr + length column) (g .size) (o .past), o .silent .expected-is, o .silent .found-is)
 
-  -- each lookup's column fails where the rules under its number do
-  abbrev Covers : List Rule → List Lookup → Type 0
-  Covers rs [] = Unit
-  Covers rs (l ∷ ls) = (under rs (l .number) ≡ false → agrees (l .addr) (l .column) ≡ false) × Covers rs ls
-
-  stands-under : (rs : List Rule) (ls : List Lookup) (n : ℕ) → Covers rs ls → under rs n ≡ false
+  stands-under : (rs : List Rule) (ls : List Lookup) (n : ℕ) → Covers g rs ls → under rs n ≡ false
       → Stood g ls n (foundUnder (g .size) (g .cell) ls n .expected) (foundUnder (g .size) (g .cell) ls n .found)
   unfolding foundUnder
   stands-under rs [] n covers bad = record { expected-is = refl; found-is = refl }
@@ -142,10 +128,10 @@ module _ (g : Given) where
           → (let f = cond b (foundBy (g .size) (g .cell) (l .addr) (l .column)) (foundUnder (g .size) (g .cell) ls n) in Stood g (l ∷ ls) n (f .expected) (f .found))
       by on true e =
           let same : l .number ≡ n = eqb-true (l .number) n e in
-          inl (same, fails-so (l .addr) (l .column) (covers .0 (subst (λ m. under rs m ≡ false) (sym same) bad)))
+          inl (same, fails-so (l .addr) (l .column) (sym (covers .0) ∙ subst (λ m. under rs m ≡ false) (sym same) bad))
       by on false e = inr (eqb-false (l .number) n e, on)
 
-  pub stands : (rs : List Rule) (ls : List Lookup) (n : ℕ) → Covers rs ls → FirstFailing rs n
+  pub stands : (rs : List Rule) (ls : List Lookup) (n : ℕ) → Covers g rs ls → FirstFailing rs n
       → Stood g ls n (foundUnder (g .size) (g .cell) ls n .expected) (foundUnder (g .size) (g .cell) ls n .found)
   stands rs ls n covers f = stands-under rs ls n covers (named-fails rs n f)
 
@@ -158,28 +144,27 @@ module _ (g : Given) where
   stood-is (l ∷ ls) n (inr (other, s)) = rw (ne-eqb (l .number) n other) (stood-is ls n s)
 
   -- the rules of both tables
-  pub exec-covers : (x y : Exec) (i : Instruction) → Covers (execRules g x y i) (execLookups x)
+  pub exec-covers : (x y : Exec) (i : Instruction) → Covers g (execRules g x y i) (execLookups x)
   unfolding execRules
-  exec-covers x y i = ((λ e. e), ((λ e. e), ((λ e. e), tt)))
+  exec-covers x y i = (refl, (refl, (refl, tt)))
 
-  one-by-one : (a b c d e : Bool) → (a && b && c && d && e && true) ≡ false → (a && (b && (c && (d && (e && true))))) ≡ false
-  one-by-one false b c d e h = refl
-  one-by-one true false c d e h = refl
-  one-by-one true true false d e h = refl
-  one-by-one true true true false e h = refl
-  one-by-one true true true true false h = refl
-  one-by-one true true true true true h = h
+  one-by-one : (a b c d e : Bool) → (a && b && c && d && e && true) ≡ (a && (b && (c && (d && (e && true)))))
+  one-by-one false b c d e = refl
+  one-by-one true false c d e = refl
+  one-by-one true true false d e = refl
+  one-by-one true true true false e = refl
+  one-by-one true true true true e = refl
 
-  five-fail : (addr : ℕ) (a : List ℕ) → (looksUpFive g addr a && true) ≡ false → agrees addr (fiveWords a) ≡ false
-  five-fail addr a h =
+  five-agree : (addr : ℕ) (a : List ℕ) → (looksUpFive g addr a && true) ≡ agrees g addr (fiveWords a)
+  five-agree addr a =
       let two : addr + 1 + 1 ≡ addr + 2 = omega arith in
       let three : addr + 2 + 1 ≡ addr + 3 = omega arith in
       let four : addr + 3 + 1 ≡ addr + 4 = omega arith in
       rw (two, three, four)
       (one-by-one (looksUp g addr (a ⟨ 0 ⟩)) (looksUp g (addr + 1) (a ⟨ 1 ⟩)) (looksUp g (addr + 2) (a ⟨ 2 ⟩))
-      (looksUp g (addr + 3) (a ⟨ 3 ⟩)) (looksUp g (addr + 4) (a ⟨ 4 ⟩)) h)
+      (looksUp g (addr + 3) (a ⟨ 3 ⟩)) (looksUp g (addr + 4) (a ⟨ 4 ⟩)))
 
-  pub ext-covers : (x y : Ext) → Covers (extRules g x y) (extLookups x)
+  pub ext-covers : (x y : Ext) → Covers g (extRules g x y) (extLookups x)
   unfolding extRules
   ext-covers x y =
-      ((λ e. e), (five-fail (x .idxA) (x .vA), (five-fail (x .idxB) (x .vB), (five-fail (x .idxR) (x .res), tt))))
+      (refl, (five-agree (x .idxA) (x .vA), (five-agree (x .idxB) (x .vB), (five-agree (x .idxR) (x .res), tt))))

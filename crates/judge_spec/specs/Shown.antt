@@ -1,10 +1,14 @@
--- Document 02, M-104: where expected or found is not 0, a lookup of the row shows them. They differ, expected is the
--- memory's word at the column's address, and found the table's.
+-- Document 02, M-104: where expected or found is not 0, a lookup of the row shows them: they differ, expected is the
+-- memory's word at the column's address, and found the table's. And where every cell of the lookup under the rule is
+-- below M, they are not both 0. What the lookups of a row are.
 use mathlib.Core.Path.{_≡_}
 use mathlib.Core.Logic.{_⊎_}
+use mathlib.Core.Bool.{Bool, true, _&&_, cond}
 use mathlib.Core.List.{List, [], _∷_}
-use Prim.Native.Nat.{ℕ}
-use Rattle.rules.specs.Given.{Given}
+use Prim.Native.Nat.{ℕ, _+_, _≤_}
+use lib.Dec.{eqb}
+use lib.ListN.{length}
+use Rattle.rules.specs.Given.{Given, looksUp, Rule}
 use Rattle.rules.specs.Lookups.{Lookup}
 use Rattle.judge_spec.specs.Refusal.{Differs}
 
@@ -17,3 +21,31 @@ pub record Shows (g : Given) (ls : List Lookup) (n expected found : ℕ) : Type 
   pub among : Among lookup ls
   pub under : lookup .number ≡ n
   pub differs : Differs g (lookup .addr) (lookup .column) expected found
+
+-- each lookup under the rule whose cells are all below M has a word that differs, and these are the numbers
+abbrev pub Told : Given → List Lookup → ℕ → ℕ → ℕ → Type 0
+Told g ls n expected found =
+    (l : Lookup) → Among l ls → l .number ≡ n → l .addr + length (l .column) ≤ g .size
+    → Differs g (l .addr) (l .column) expected found
+
+-- the lookups of a list are those of a list of rules: they have these numbers, and the rules under a lookup's number
+-- hold exactly where its column is in its cells, one after the other
+abbrev pub numbers : List Lookup → List ℕ
+numbers [] = []
+numbers (l ∷ ls) = l .number ∷ numbers ls
+
+abbrev pub under : List Rule → ℕ → Bool
+under [] n = true
+under (r ∷ rs) n = cond (eqb (r .number) n) (r .holds && under rs n) (under rs n)
+
+abbrev pub agrees : Given → ℕ → List ℕ → Bool
+agrees g addr [] = true
+agrees g addr (v ∷ vs) = looksUp g addr v && agrees g (addr + 1) vs
+
+abbrev pub Covers : Given → List Rule → List Lookup → Type 0
+Covers g rs [] = Unit
+Covers g rs (l ∷ ls) = (under rs (l .number) ≡ agrees g (l .addr) (l .column)) × Covers g rs ls
+
+pub record LookupsOf (g : Given) (rs : List Rule) (ls : List Lookup) (ns : List ℕ) : Type 0 where
+  pub numbered : numbers ls ≡ ns
+  pub covers : Covers g rs ls

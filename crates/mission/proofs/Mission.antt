@@ -10,7 +10,7 @@ use Rattle.uisnabar.proofs.Determined.{call-determined}
 use Rattle.program_build.proofs.Output.{output-determined}
 use Rattle.judge_spec.proofs.Exactly.{says-exactly, accepted-satisfies, satisfies-accepted, answer-determined}
 use Rattle.judge_spec.proofs.AsBefore.{as-before}
-use Rattle.judge_spec.proofs.Showing.{exec-shown, ext-shown}
+use Rattle.judge_spec.proofs.Showing.{exec-shown, ext-shown, exec-lookups, ext-lookups, exec-told, ext-told}
 use Rattle.run.proofs.Sound.{sound}
 use Rattle.run.proofs.Agree.{one-run, agree}
 use Rattle.run.proofs.Converse.{converse}
@@ -60,6 +60,10 @@ demand-two =
       four-as-before = as-before;
       exec-shown = exec-shown;
       extension-shown = ext-shown;
+      exec-lookups = exec-lookups;
+      extension-lookups = ext-lookups;
+      exec-told = exec-told;
+      extension-told = ext-told;
       driver-reads = driver-reads;
       driver-reads-label = driver-reads-label;
       label-written =

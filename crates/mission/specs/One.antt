@@ -2,7 +2,7 @@
 -- start state are judged by the entry that receives them; each refusal has one number, one place and one stated effect
 -- on the buffers." Document 01, "Verdicts" and "What the contracts owe".
 -- That nothing crashes or hangs is what a proved function means, and an entry has no `requires` (tests/contracts.py),
--- so it takes whatever is handed in. What is left is here: each promise admits one outcome, four numbers name one
+-- so it takes whatever is handed in. What is left is here: each promise admits one outcome, six numbers name one
 -- answer, and what each refusal does to the buffers. What a refusal says, and so its one place, is demand 2 for judge
 -- and label, demand 3 for the tabler.
 -- Declared in src/: Answer (answer); Recipe, Reading (label).
@@ -48,7 +48,7 @@ pub record DemandOne : Type 0 where
   pub program-one : (output : Reading → List ℕ) (text buffer : List ℕ) → Determined (ProgramPromise output text buffer)
   -- the reader's promise is no equation, so that it can be kept is said apart: every text has a reading
   pub reader-some : (text : List ℕ) → (r : Reading) × Reads text r
-  -- each refusal has one number: four numbers name one answer
+  -- each refusal has one number: six numbers name one answer
   pub one-number : (a b : Answer) → numbersOf a ≡ numbersOf b → a ≡ b
   -- the tabler: verdicts 1 to 4 change no buffer; 9, 10 and 11 leave both tables all zero
   pub tabler-keeps : (i : Input) (exec ext : List ℕ)

@@ -5,10 +5,10 @@
 -- (rules) knows neither machine nor judge; `Says` (judge_spec) says for each verdict what document 01's table has: the
 -- first failure in its order, by part, row and rule. A recipe in range is a version, a seed below 2^64, m and n;
 -- `labelOf` is its label byte for byte, and `Reads` what `label::read_label` promises.
--- Declared in src/: Answer (answer); Recipe, Reading (label).
+-- Declared in src/: Answer (answer); Recipe, Reading (label); Instruction (form); Exec, Ext (rows).
 use mathlib.Core.Path.{_≡_}
 use mathlib.Core.Logic.{_↔_}
-use mathlib.Core.List.{List, _++_}
+use mathlib.Core.List.{List, [], _∷_, _++_}
 use Prim.Native.Nat.{ℕ, _≤_}
 use lib.ListN.{length, drop}
 use Rattle.reply.specs.Reply.{answerBytes}
@@ -22,12 +22,18 @@ use Rattle.label.specs.Writing.{written, buffered}
 use Rattle.label.specs.declared.Recipe.{Recipe}
 use Rattle.label.specs.declared.Reading.{Reading}
 use Rattle.rules.specs.Sizes.{Parts, givenOf, tablesOf}
+use Rattle.rules.specs.Given.{Given}
+use Rattle.rules.specs.Execution.{execRules}
+use Rattle.rules.specs.Extension.{extRules}
 use Rattle.rules.specs.Lookups.{execLookups, extLookups}
+use Rattle.form.specs.declared.Instruction.{Instruction}
+use Rattle.rows.specs.declared.Exec.{Exec as ExecRow}
+use Rattle.rows.specs.declared.Ext.{Ext}
 use Rattle.rules.specs.Satisfies.{Satisfies}
 use Rattle.judge_spec.specs.Judged.{judgeOf}
 use Rattle.judge_spec.specs.Refusal.{Silent, Says}
 use Rattle.judge_spec.specs.Before.{judgeBefore, firstFour}
-use Rattle.judge_spec.specs.Shown.{Shows}
+use Rattle.judge_spec.specs.Shown.{Shows, Told, LookupsOf}
 use Rattle.mission.specs.Promises.{JudgeCall, ReaderCall}
 use Rattle.mission.specs.Driver.{DriverReads, DriverReadsLabel}
 
@@ -44,6 +50,14 @@ pub record DemandTwo : Type 0 where
       → Shows (givenOf q) (execLookups (tablesOf q .exec r)) n expected found
   pub extension-shown : (q : Parts) (r n expected found : ℕ) → judgeOf q ≡ Extension r n expected found → (Silent expected found → ⊥)
       → Shows (givenOf q) (extLookups (tablesOf q .ext r)) n expected found
+  -- the lookups are those of execution rules 2 to 4 and of extension rules 18 to 21, and ask what these do
+  pub exec-lookups : (g : Given) (x y : ExecRow) (i : Instruction) → LookupsOf g (execRules g x y i) (execLookups x) (2 ∷ 3 ∷ 4 ∷ [])
+  pub extension-lookups : (g : Given) (x y : Ext) → LookupsOf g (extRules g x y) (extLookups x) (18 ∷ 19 ∷ 20 ∷ 21 ∷ [])
+  -- the numbers are said wherever every cell of the lookup under the rule is below M
+  pub exec-told : (q : Parts) (r n expected found : ℕ) → judgeOf q ≡ Exec r n expected found
+      → Told (givenOf q) (execLookups (tablesOf q .exec r)) n expected found
+  pub extension-told : (q : Parts) (r n expected found : ℕ) → judgeOf q ≡ Extension r n expected found
+      → Told (givenOf q) (extLookups (tablesOf q .ext r)) n expected found
   -- and so for a driver in C, from what `uisnabar_judge` promises
   pub driver-reads : (q : Parts) (buffer : List ℕ) (x : ℕ × List ℕ) → length buffer ≡ answerBytes → JudgeCall q buffer x → DriverReads q (x .0) (x .1)
   -- a driver reads a label as the reader does, from what `uisnabar_label` promises

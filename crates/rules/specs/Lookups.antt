@@ -1,8 +1,8 @@
--- Document 02, M-104; draft 0.6.0, 3.3.3 and 3.5.3: the lookups of a row under their rules' numbers, and what one of
+-- Document 02, M-104; draft 0.6.0, 3.3.1 and 3.5.3: the lookups of a row under their rules' numbers, and what one of
 -- them finds.
 -- Declared in src/: Exec, Ext (rows); Found (here).
 use Prim.Native.Nat.{ℕ, _+_}
-use mathlib.Core.Bool.{Bool, cond}
+use mathlib.Core.Bool.{cond}
 use mathlib.Core.List.{List, [], _∷_}
 use lib.Dec.{leb, eqb}
 use lib.ListN.{length}

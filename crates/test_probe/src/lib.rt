@@ -21,7 +21,7 @@ fn recipe(version: u32, seed: u64, m: u32, n: u32) -> Recipe
     }
 }
 
-// The tabler; its answer is told where the answer's buffer is 16 bytes.
+// The tabler; its answer is told where the answer's buffer is 24 bytes.
 #[no_mangle]
 pub extern "C" fn probe_table(
     program: &[u8],

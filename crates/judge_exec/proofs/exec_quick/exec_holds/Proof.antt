@@ -25,7 +25,7 @@ returns-4 c e =
     (picked2 .ensures (leb-false _ _ (words .1)))
     (picked3 .ensures (leb-false _ _ (words .2)))
     (c .before .jump-taken .ensures)
-    (else2 .before .found .ensures (not-false _ (else2 .if2 .left)))
+    (else2 .before .lookups-hold .ensures (not-false _ (else2 .if2 .left)))
     (else3 .before .operated .ensures (not-false _ (else3 .if3 .left)))
     (c .moved .ensures e)
 

@@ -11,7 +11,7 @@ returns-3 c e =
     let else2 = c .before in
     let else1 = else2 .before .before in
     rw (c .followed .ensures e)
-    (else1 .before .found .ensures (not-false _ (else1 .if1 .left)) _ ∙ else2 .before .all-bits .ensures (not-false _ (else2 .if2 .left)) _)
+    (else1 .before .lookups-hold .ensures (not-false _ (else1 .if1 .left)) _ ∙ else2 .before .all-bits .ensures (not-false _ (else2 .if2 .left)) _)
 
 pub others-hold-spec : {M : Type 1} → statement M
 others-hold-spec =

@@ -3,8 +3,8 @@ use borrow.Author.Needs.{needs}
 use borrow.Author.Tests.{not-false}
 use mathlib.Core.Path.{refl, sym, _∙_}
 use Rattle.judge_lookups.proofs.Quick.{pass, never}
-use Rattle.judge_exec.proofs.exec_quick.found.Statement.{statement}
-use Rattle.judge_exec.proofs.exec_quick.found.Tie as tie
+use Rattle.judge_exec.proofs.exec_quick.lookups_hold.Statement.{statement}
+use Rattle.judge_exec.proofs.exec_quick.lookups_hold.Tie as tie
 
 returns-3 : tie.Need-returns-3
 returns-3 c e rest =
@@ -14,8 +14,8 @@ returns-3 c e rest =
     (pass 3 (sym (else2 .before .looks-up2 .ensures) ∙ not-false _ (else2 .if2 .left))
     (pass 4 (sym (c .looks-up3 .ensures) ∙ e) refl))
 
-pub found-spec : {M : Type 1} → statement M
-found-spec =
+pub lookups-hold-spec : {M : Type 1} → statement M
+lookups-hold-spec =
     tie.close
     (tie.spec
     (λ c. search needs)

@@ -3,8 +3,8 @@ use borrow.Author.Needs.{needs}
 use borrow.Author.Tests.{not-false}
 use mathlib.Core.Path.{refl, sym, _∙_}
 use Rattle.judge_lookups.proofs.Quick.{pass, never}
-use Rattle.judge_ext.proofs.ext_quick.found.Statement.{statement}
-use Rattle.judge_ext.proofs.ext_quick.found.Tie as tie
+use Rattle.judge_ext.proofs.ext_quick.lookups_hold.Statement.{statement}
+use Rattle.judge_ext.proofs.ext_quick.lookups_hold.Tie as tie
 
 returns-4 : tie.Need-returns-4
 returns-4 c e rest =
@@ -16,8 +16,8 @@ returns-4 c e rest =
     (pass 20 (sym (else3 .before .looks-up-five2 .ensures) ∙ not-false _ (else3 .if3 .left))
     (pass 21 (sym (c .looks-up-five3 .ensures) ∙ e) refl)))
 
-pub found-spec : {M : Type 1} → statement M
-found-spec =
+pub lookups-hold-spec : {M : Type 1} → statement M
+lookups-hold-spec =
     tie.close
     (tie.spec
     (λ c. search needs)
