@@ -83,17 +83,17 @@ fn moved(j: u32, x: Exec, y: Exec, a: u32, b: u32, c: u32) -> bool
     (j == 1) & (a == 1) & (y.pc == b) & (y.fp == c)
 }
 
-// Whether these comparisons show that all rules but 1 hold.
+// Whether these comparisons show that all rules but 1 hold. Lookups come first, while the row's columns are at hand.
 pub(crate) fn exec_holds(memory: &[u8], x: Exec, y: Exec, i: Instruction) -> bool
     ensures { λ r. ⌜ (r ≡ true → execFails (now (memory .entry)) x y i ≡ 0) ⌝ }
 {
+    if !lookups_hold(memory, x) {
+        return false;
+    }
     let a = picked(i.fa, i.fpab, i.a, x.addrA, x.valueA, x.fp);
     let b = picked(i.fb, i.fpab, i.b, x.addrB, x.valueB, x.fp);
     let c = picked(i.fc, i.fpc, i.c, x.addrC, x.valueC, x.fp);
     if (2130706433 <= a) | (2130706433 <= b) | (2130706433 <= c) {
-        return false;
-    }
-    if !lookups_hold(memory, x) {
         return false;
     }
     if !operated(i, x, a, b, c) {

@@ -14,17 +14,17 @@ ghost use Rattle.rules.specs.Given.{zero?};
 ghost use Rattle.rules.specs.Extension.{selected, compTail};
 ghost use Rattle.judge_ext.specs.ExtParts.{extLookupsThen, bitsThen, samesThen, stepsThen, accumulatesThen, extFails};
 
-// Rules 18 to 21.
+// Rules 18 to 21. vA's five cells come before its base, so that the base is compared with what was read already.
 fn lookups_hold(memory: &[u8], x: Ext) -> bool
     ensures { λ r. ⌜ (r ≡ true → (rest : ℕ) → extLookupsThen (now (memory .entry)) x rest ≡ rest) ⌝ }
 {
     let left = x.vA;
     let right = x.vB;
     let result = x.res;
-    if !looks_up(memory, x.idxA as usize, x.base) {
+    if !looks_up_five(memory, x.idxA, left) {
         return false;
     }
-    if !looks_up_five(memory, x.idxA, left) {
+    if !looks_up(memory, x.idxA as usize, x.base) {
         return false;
     }
     if !looks_up_five(memory, x.idxB, right) {

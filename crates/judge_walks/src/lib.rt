@@ -90,7 +90,7 @@ pub fn ext_walk(memory: &[u8], ext: &[u8]) -> Extended
     let mut words = true;
     let mut r = 0;
     while r < n {
-        if ext_failing(memory, ext, r) != 0 {
+        if ext_failing(memory, ext, n, r) != 0 {
             return Extended {
                 at: r,
                 rule: ext_rule(memory, ext, r),

@@ -1,8 +1,9 @@
 -- Comparisons that say yes leave rules 6 to 9; the groups that the code walks are the rules.
 use borrow.Author.Needs.{needs}
 use mathlib.Core.Path.{_∙_, ap}
-use Prim.Native.Nat.{_*_}
+use Prim.Native.Nat.{ℕ, _*_}
 use Rattle.rows.specs.Rows.{extAt}
+use Rattle.rules.specs.Given.{next}
 use Rattle.judge_ext.proofs.AllRules.{compared}
 use Rattle.judge_ext.proofs.ext_failing.Statement.{statement}
 use Rattle.judge_ext.proofs.ext_failing.Tie as tie
@@ -15,7 +16,7 @@ returns c =
     let args = row .before .before .before .args in
     compared (args .ext .now) (args .r) (args .memory .now)
     (row .ext-inside .ensures)
-    (paired .ext-inside2 .ensures ∙ ap (λ k. extAt (args .ext .now) (120 * k)) (paired .before .next-row .ensures .0))
+    (paired .ext-inside2 .ensures ∙ ap (λ k. extAt (args .ext .now) (120 * k)) (paired .before .next-row .ensures .0 ∙ ap (λ (n : ℕ). next n (args .r)) (row .before .before .before .pre .0)))
     (held .others-hold .ensures (c .before .if1 .taken))
     (c .accumulates .ensures)
 

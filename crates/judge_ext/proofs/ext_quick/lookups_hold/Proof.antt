@@ -10,9 +10,9 @@ returns-4 : tie.Need-returns-4
 returns-4 c e rest =
     let else3 = c .before in
     let else2 = else3 .before .before in
-    let else1 = else2 .before .before in
-    pass 18 (sym (else1 .before .looks-up .ensures) ∙ not-false _ (else1 .if1 .left))
-    (pass 19 (sym (else2 .before .looks-up-five .ensures) ∙ not-false _ (else2 .if2 .left))
+    let else1 = else2 .before .before .before in
+    pass 18 (sym (else2 .before .looks-up .ensures) ∙ not-false _ (else2 .if2 .left))
+    (pass 19 (sym (else1 .before .looks-up-five .ensures) ∙ not-false _ (else1 .if1 .left))
     (pass 20 (sym (else3 .before .looks-up-five2 .ensures) ∙ not-false _ (else3 .if3 .left))
     (pass 21 (sym (c .looks-up-five3 .ensures) ∙ e) refl)))
 
@@ -20,9 +20,9 @@ pub lookups-hold-spec : {M : Type 1} → statement M
 lookups-hold-spec =
     tie.close
     (tie.spec
-    (λ c. search needs)
     (λ c κs. search needs)
     (λ c. never)
+    (λ c. search needs)
     (λ c κs. search needs)
     (λ c. never)
     (λ c κs. search needs)
