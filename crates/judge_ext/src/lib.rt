@@ -17,8 +17,8 @@ ghost use lib.ListN.{length};
 ghost use Rattle.rules.specs.Sizes.{given, tables};
 ghost use Rattle.judge_spec.specs.Judged.{extFailing};
 
-// The first extension rule that fails on row r of a table of n, and 0 where all hold. Only rules 6 to 9 take the polynomials
-// where comparisons show that the others hold.
+// The first extension rule that fails on row r of a table of n rows, and 0 where all hold. Only rules 6 to 9 take the
+// polynomials where comparisons show that the others hold.
 pub fn ext_failing(memory: &[u8], ext: &[u8], n: usize, r: usize) -> u32
     requires { ⌜ (n ≡ length (now ext) / 120) × (r < n) ⌝ }
     ensures { λ f. ⌜ f ≡ extFailing (given [] (now (memory .entry))) (tables [] (now (ext .entry))) r ⌝ }
