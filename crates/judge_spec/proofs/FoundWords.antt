@@ -34,8 +34,8 @@ module _ (g : Given) (cells : (k : ℕ) → k < g .size → IsWord (g .cell k)) 
   pub stood-words : (ls : List Lookup) (n : ℕ) {x y : ℕ} → Columns ls → Stood g ls n x y → IsWord x × IsWord y
   stood-words [] n w s = silent-words s
   stood-words (l ∷ ls) n w (inl (same, inl d)) = (
-    subst IsWord (sym (d .expected-is)) (cells (l .addr + d .place) (omega (arith, d .inside, d .in-range))),
-    subst IsWord (sym (d .found-is)) (nth (l .column) (w .0) (d .place) (d .inside)),
+    subst IsWord (sym (d .expected-is)) (cells (l .addr + d .index) (omega (arith, d .inside, d .in-range))),
+    subst IsWord (sym (d .found-is)) (nth (l .column) (w .0) (d .index) (d .inside)),
   )
   stood-words (l ∷ ls) n w (inl (same, inr o)) = silent-words (o .silent)
   stood-words (l ∷ ls) n w (inr (other, s)) = stood-words ls n (w .1) s

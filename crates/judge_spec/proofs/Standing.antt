@@ -21,7 +21,7 @@ use Rattle.rules.specs.Execution.{execRules}
 use Rattle.rules.specs.Extension.{extRules}
 use Rattle.rules.specs.Lookups.{Lookup, execLookups, extLookups, finding, differing, foundBy, foundUnder}
 use Rattle.judge_spec.specs.Refusal.{FirstFailing, Differs, OutOfRange, Stood}
-use Rattle.judge_spec.specs.Shown.{under, agrees, Covers}
+use Rattle.judge_spec.specs.Shown.{holdUnder, agrees, Covers}
 
 stays-false : (b holds : Bool) {c : Bool} → c ≡ false → cond b (holds && c) c ≡ false
 stays-false true true e = e
@@ -29,19 +29,19 @@ stays-false true false e = refl
 stays-false false holds e = e
 
 -- the rules under the number that is named do not hold
-under-fails : (before after : List Rule) (n : ℕ) → under (before ++ (rule n false ∷ after)) n ≡ false
+under-fails : (before after : List Rule) (n : ℕ) → holdUnder (before ++ (rule n false ∷ after)) n ≡ false
 under-fails [] after n = rw (eqb-same n)
 under-fails (r ∷ rs) after n = stays-false (eqb (r .number) n) (r .holds) (under-fails rs after n)
 
-named-fails : (rs : List Rule) (n : ℕ) → FirstFailing rs n → under rs n ≡ false
-named-fails rs n f = ap (λ (l : List Rule). under l n) (f .split) ∙ under-fails (f .before) (f .after) n
+named-fails : (rs : List Rule) (n : ℕ) → FirstFailing rs n → holdUnder rs n ≡ false
+named-fails rs n f = ap (λ (l : List Rule). holdUnder l n) (f .split) ∙ under-fails (f .before) (f .after) n
 
 module _ (g : Given) where
   module _ (addr v : ℕ) (vs : List ℕ) where
     here : addr + length (v ∷ vs) ≤ g .size → (v ≡ g .cell addr → ⊥) → Differs g addr (v ∷ vs) (g .cell addr) v
     here range other =
         record {
-          place = 0;
+          index = 0;
           inside = omega arith;
           in-range = range;
           before = λ j h. absurd (omega arith);
@@ -53,7 +53,7 @@ module _ (g : Given) where
     later : {x y : ℕ} → v ≡ g .cell addr → Differs g (addr + 1) vs x y → Differs g addr (v ∷ vs) x y
     later same d =
         record {
-          place = suc (d .place);
+          index = suc (d .index);
           inside = omega (arith, d .inside);
           in-range = omega (arith, d .in-range);
           before = earlier;
@@ -62,7 +62,7 @@ module _ (g : Given) where
           differ = d .differ;
         }
       where
-        earlier : (j : ℕ) → j < suc (d .place) → getD (v ∷ vs) j 0 ≡ g .cell (addr + j)
+        earlier : (j : ℕ) → j < suc (d .index) → getD (v ∷ vs) j 0 ≡ g .cell (addr + j)
         earlier zero h = same ∙ ap (g .cell) (sym (add-zero addr))
         earlier (suc j) h = d .before j (omega arith) ∙ ap (g .cell) (omega arith)
 
@@ -110,14 +110,14 @@ module _ (g : Given) where
   unfolding foundBy
   differs-is addr column d =
       rw (le-leb (addr + length column) (g .size) (d .in-range), d .expected-is, d .found-is)
-      (found-at addr column (d .place) (d .inside) (d .before) (λ e. d .differ (d .expected-is ∙ sym e ∙ sym (d .found-is))))
+      (found-at addr column (d .index) (d .inside) (d .before) (λ e. d .differ (d .expected-is ∙ sym e ∙ sym (d .found-is))))
 
   out-is : (addr : ℕ) (column : List ℕ) {x y : ℕ} → OutOfRange g addr column x y → foundBy (g .size) (g .cell) addr column ≡ finding x y
   unfolding foundBy
   out-is addr column o =
       rw (lt-leb (addr + length column) (g .size) (o .past), o .silent .expected-is, o .silent .found-is)
 
-  stands-under : (rs : List Rule) (ls : List Lookup) (n : ℕ) → Covers g rs ls → under rs n ≡ false
+  stands-under : (rs : List Rule) (ls : List Lookup) (n : ℕ) → Covers g rs ls → holdUnder rs n ≡ false
       → Stood g ls n (foundUnder (g .size) (g .cell) ls n .expected) (foundUnder (g .size) (g .cell) ls n .found)
   unfolding foundUnder
   stands-under rs [] n covers bad = record { expected-is = refl; found-is = refl }
@@ -128,7 +128,7 @@ module _ (g : Given) where
           → (let f = cond b (foundBy (g .size) (g .cell) (l .addr) (l .column)) (foundUnder (g .size) (g .cell) ls n) in Stood g (l ∷ ls) n (f .expected) (f .found))
       by on true e =
           let same : l .number ≡ n = eqb-true (l .number) n e in
-          inl (same, fails-so (l .addr) (l .column) (sym (covers .0) ∙ subst (λ m. under rs m ≡ false) (sym same) bad))
+          inl (same, fails-so (l .addr) (l .column) (sym (covers .0) ∙ subst (λ m. holdUnder rs m ≡ false) (sym same) bad))
       by on false e = inr (eqb-false (l .number) n e, on)
 
   pub stands : (rs : List Rule) (ls : List Lookup) (n : ℕ) → Covers g rs ls → FirstFailing rs n

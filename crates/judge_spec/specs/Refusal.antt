@@ -33,14 +33,14 @@ pub record Silent (expected found : ℕ) : Type 0 where
 
 -- what stood there
 module _ (g : Given) where
-  -- every cell is below M, and the one at a place is the first that differs: its word, and the column's
+  -- every cell is below M, and the one at an index is the first that differs: its word, and the column's
   pub record Differs (addr : ℕ) (column : List ℕ) (expected found : ℕ) : Type 0 where
-    pub place : ℕ
-    pub inside : place < length column
+    pub index : ℕ
+    pub inside : index < length column
     pub in-range : addr + length column ≤ g .size
-    pub before : (j : ℕ) → j < place → getD column j 0 ≡ g .cell (addr + j)
-    pub expected-is : expected ≡ g .cell (addr + place)
-    pub found-is : found ≡ getD column place 0
+    pub before : (j : ℕ) → j < index → getD column j 0 ≡ g .cell (addr + j)
+    pub expected-is : expected ≡ g .cell (addr + index)
+    pub found-is : found ≡ getD column index 0
     pub differ : expected ≡ found → ⊥
 
   -- one of the cells is not below M

@@ -30,13 +30,13 @@ Told g ls n expected found =
 
 -- the lookups of a list are those of a list of rules: they have these numbers, and the rules under a lookup's number
 -- hold exactly where its column is in its cells, one after the other
-abbrev pub numbers : List Lookup → List ℕ
-numbers [] = []
-numbers (l ∷ ls) = l .number ∷ numbers ls
+abbrev pub ruleNumbers : List Lookup → List ℕ
+ruleNumbers [] = []
+ruleNumbers (l ∷ ls) = l .number ∷ ruleNumbers ls
 
-abbrev pub under : List Rule → ℕ → Bool
-under [] n = true
-under (r ∷ rs) n = cond (eqb (r .number) n) (r .holds && under rs n) (under rs n)
+abbrev pub holdUnder : List Rule → ℕ → Bool
+holdUnder [] n = true
+holdUnder (r ∷ rs) n = cond (eqb (r .number) n) (r .holds && holdUnder rs n) (holdUnder rs n)
 
 abbrev pub agrees : Given → ℕ → List ℕ → Bool
 agrees g addr [] = true
@@ -44,8 +44,8 @@ agrees g addr (v ∷ vs) = looksUp g addr v && agrees g (addr + 1) vs
 
 abbrev pub Covers : Given → List Rule → List Lookup → Type 0
 Covers g rs [] = Unit
-Covers g rs (l ∷ ls) = (under rs (l .number) ≡ agrees g (l .addr) (l .column)) × Covers g rs ls
+Covers g rs (l ∷ ls) = (holdUnder rs (l .number) ≡ agrees g (l .addr) (l .column)) × Covers g rs ls
 
 pub record LookupsOf (g : Given) (rs : List Rule) (ls : List Lookup) (ns : List ℕ) : Type 0 where
-  pub numbered : numbers ls ≡ ns
+  pub numbered : ruleNumbers ls ≡ ns
   pub covers : Covers g rs ls
