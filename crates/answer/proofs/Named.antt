@@ -26,6 +26,8 @@ use Rattle.answer.specs.declared.Answer.the-variants.{
   Buffer,
   Grid,
   Edition,
+  Listing,
+  Short,
 }
 
 abbrev answerIn : ℕ → ℕ → ℕ → ℕ → ℕ → ℕ → Answer
@@ -47,6 +49,8 @@ answerIn verdict part place rule expected found =
     ∷ Buffer
     ∷ Grid
     ∷ Edition place
+    ∷ Listing place
+    ∷ Short place
     ∷ [])
     verdict Accepted
 
@@ -70,6 +74,8 @@ named-back Itself = refl
 named-back Buffer = refl
 named-back Grid = refl
 named-back (Edition place) = refl
+named-back (Listing place) = refl
+named-back (Short place) = refl
 
 pub one-number : (a b : Answer) → numbersOf a ≡ numbersOf b → a ≡ b
 one-number a b e = sym (named-back a) ∙ ap named e ∙ named-back b

@@ -24,6 +24,8 @@ use Rattle.answer.specs.declared.Answer.the-variants.{
   Buffer,
   Grid,
   Edition,
+  Listing,
+  Short,
 }
 
 abbrev pub six : ℕ → ℕ → ℕ → ℕ → ℕ → ℕ → Numbers
@@ -50,6 +52,8 @@ numbersOf Itself = four 12 0 0 0
 numbersOf Buffer = four 13 0 0 0
 numbersOf Grid = four 14 0 0 0
 numbersOf (Edition place) = four 15 0 place 0
+numbersOf (Listing place) = four 16 0 place 0
+numbersOf (Short place) = four 17 0 place 0
 
 -- verdict 0
 abbrev pub accepted : Answer → Bool

@@ -52,6 +52,12 @@ pub enum Answer {
     Edition {
         place: u32,
     },
+    Listing {
+        place: u32,
+    },
+    Short {
+        place: u32,
+    },
 }
 
 // An answer as the paper counts it. What a verdict does not name is 0.
@@ -115,6 +121,8 @@ pub fn six_numbers(a: Answer) -> Numbers
         Answer::Buffer => four(13, 0, 0, 0),
         Answer::Grid => four(14, 0, 0, 0),
         Answer::Edition { place } => four(15, 0, place, 0),
+        Answer::Listing { place } => four(16, 0, place, 0),
+        Answer::Short { place } => four(17, 0, place, 0),
     }
 }
 

@@ -25,6 +25,8 @@ use Rattle.answer.specs.declared.Answer.the-variants.{
   Buffer,
   Grid,
   Edition,
+  Listing,
+  Short,
 }
 use Rattle.machine.specs.Machine.{State}
 use Rattle.tables.specs.Rows.{stateAt}
@@ -118,6 +120,8 @@ module _ (i : Input) (exec ext : List ℕ) where
   kept Buffer old written h l = refl
   kept Grid old written h l = refl
   kept (Edition place) old written h l = refl
+  kept (Listing place) old written h l = refl
+  kept (Short place) old written h l = refl
 
   -- 9 to 11 leave zeros
   zeroed : (a : Answer) (old written : List ℕ) → 9 ≤ numbersOf a .verdict → numbersOf a .verdict ≤ 11 → heldAfter a old written ≡ replicate (length old) 0
@@ -137,6 +141,8 @@ module _ (i : Input) (exec ext : List ℕ) where
   zeroed Buffer old written h l = absurd (omega arith)
   zeroed Grid old written h l = absurd (omega arith)
   zeroed (Edition place) old written h l = absurd (omega arith)
+  zeroed (Listing place) old written h l = absurd (omega arith)
+  zeroed (Short place) old written h l = absurd (omega arith)
 
   pub refusal-keeps : 1 ≤ numbersOf (answerFor i exec ext) .verdict → numbersOf (answerFor i exec ext) .verdict ≤ 4
       → (execLeft i exec ext ≡ exec) × (extLeft i exec ext ≡ ext)

@@ -29,6 +29,8 @@ use Rattle.answer.specs.declared.Answer.the-variants.{
   Buffer,
   Grid,
   Edition,
+  Listing,
+  Short,
 }
 use Rattle.machine.specs.Machine.{State}
 use Rattle.rules.specs.Sizes.{Parts, given, tablesOf}
@@ -142,6 +144,8 @@ module _ (i : Input) (exec ext : List ℕ) where
   tells-only Buffer x = absurd x
   tells-only Grid x = absurd x
   tells-only (Edition place) x = absurd x
+  tells-only (Listing place) x = absurd x
+  tells-only (Short place) x = absurd x
 
   -- the tabler gives an answer exactly where what it tells is so
   pub tells-exactly : (a : Answer) → (answerFor i exec ext ≡ a) ↔ Tells i exec ext a

@@ -31,6 +31,8 @@ use Rattle.answer.specs.declared.Answer.the-variants.{
   Buffer,
   Grid,
   Edition,
+  Listing,
+  Short,
 }
 use Rattle.machine.specs.Machine.{Machine, State, value, legal}
 use Rattle.machine.specs.Extension.{elementAt, cellsExist, result, sameElement}
@@ -173,3 +175,5 @@ module _ (i : Input) (exec ext : List ℕ) where
   Tells Buffer = ⊥
   Tells Grid = ⊥
   Tells (Edition place) = ⊥
+  Tells (Listing place) = ⊥
+  Tells (Short place) = ⊥

@@ -24,6 +24,8 @@ use Rattle.answer.specs.declared.Answer.the-variants.{
   Buffer,
   Grid,
   Edition,
+  Listing,
+  Short,
 }
 use Rattle.machine.specs.Machine.{Machine, State}
 use Rattle.machine.specs.Step.{Outcome, goes, stuck, step}
@@ -92,6 +94,8 @@ heldAfter Itself old written = old
 heldAfter Buffer old written = old
 heldAfter Grid old written = old
 heldAfter (Edition place) old written = old
+heldAfter (Listing place) old written = old
+heldAfter (Short place) old written = old
 
 abbrev pub execAfter : List ℕ → List ℕ → ℕ → ℕ → List ℕ → List ℕ → List ℕ
 execAfter program memory pc fp exec ext =

@@ -5,5 +5,6 @@ pub mod Every
 pub mod NextDigit
 pub mod Standing
 pub mod OneDigit
+pub mod Letters
 pub mod SixteenHex
 pub mod Toward

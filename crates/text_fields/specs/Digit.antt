@@ -2,7 +2,7 @@
 -- Declared in src/: number (here).
 use Prim.Native.Nat.{ℕ, zero, suc, _+_, _-_, _*_}
 use mathlib.Core.Bool.{Bool, true, cond, _&&_}
-use mathlib.Core.List.{List}
+use mathlib.Core.List.{List, [], _∷_}
 use lib.Dec.{ltb, leb, eqb}
 use lib.ListN.{getD}
 use Rattle.text_fields.specs.declared.number.Step.{Step}
@@ -15,6 +15,11 @@ hexValue b = cond (ltb b 48) 16 (cond (ltb b 58) (b - 48) (cond (ltb b 97) 16 (c
 -- the value of a decimal digit, 10 for any other byte
 unfoldable pub decimalValue : ℕ → ℕ
 decimalValue b = cond (ltb b 48) 10 (cond (ltb b 58) (b - 48) 10)
+
+-- a byte's number among some letters; how many there are where it is none of them
+unfoldable pub indexIn : List ℕ → ℕ → ℕ
+indexIn [] b = 0
+indexIn (x ∷ xs) b = cond (eqb x b) 0 (suc (indexIn xs b))
 
 -- a byte behind the digits of x, in a number of at most high that a byte ends
 unfoldable pub nextDigit : ℕ → ℕ → ℕ → ℕ → Step

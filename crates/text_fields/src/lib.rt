@@ -2,10 +2,12 @@
 // cannot have.
 mod digit;
 mod hex;
+mod letter;
 mod number;
 
 use digit::decimal_value;
 pub use hex::read_hex;
+pub use letter::read_letter;
 pub use number::read_number;
 ghost use mathlib.Core.Bool.{true};
 ghost use mathlib.Core.Path.{_≡_};

@@ -4,3 +4,4 @@ pub mod Joined
 pub mod Digits
 pub mod Number
 pub mod Parsing
+pub mod Many

@@ -1,8 +1,8 @@
 -- Inner: patterns of text, as what may still come: each byte that goes on, and the pattern of the rest. A pattern is
 -- its own reader's state.
-use Prim.Native.Nat.{ℕ}
+use Prim.Native.Nat.{ℕ, zero, suc}
 use mathlib.Core.Bool.{Bool, true, false, cond}
-use mathlib.Core.List.{List, [], _∷_}
+use mathlib.Core.List.{List, [], _∷_, _++_}
 use mathlib.Core.Option.{Option, none, some}
 use mathlib.Core.Path.{_≡_}
 use lib.Dec.{T, eqb}
@@ -57,6 +57,26 @@ unfoldable pub seq : {A B : Type 0} → Pattern A → (A → Pattern B) → Patt
 seq (done a) k = k a
 seq (node ok f) k = node ok (λ b. seq (f b) k)
 seq (more a ok f) k = k a
+
+-- a value, or a pattern that is read for at least a byte
+unfoldable pub opt : {A : Type 0} → A → Pattern A → Pattern A
+opt a (done c) = done c
+opt a (node ok f) = more a ok f
+opt a (more c ok f) = more a ok f
+
+-- at most n more lines, behind those that are read
+unfoldable pub many : {A : Type 0} → Pattern A → ℕ → List A → Pattern (List A)
+many line zero xs = done xs
+many line (suc n) xs = opt xs (seq line (λ a. many line n (xs ++ (a ∷ []))))
+
+-- each of a list is of a kind, and what the list is written as
+abbrev pub Each : {A : Type 0} → (A → Type 0) → List A → Type 0
+Each P [] = Unit {0}
+Each P (x ∷ xs) = P x × Each P xs
+
+unfoldable pub flat : {A : Type 0} → (A → List ℕ) → List A → List ℕ
+flat p [] = []
+flat p (x ∷ xs) = p x ++ flat p xs
 
 -- a reading that goes as far as it can: the value where it may end, and the bytes that are left
 pub data Parsed (A : Type 0) : Type 0 where

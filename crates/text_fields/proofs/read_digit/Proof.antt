@@ -24,7 +24,7 @@ returns-2 c =
     let is = c .stop-at2 .ensures in
     let read =
     stops (a .text .now) (a .from) (one decimalValue (a .low) (a .high)) (c .before .before .if1 .left) (a .from .at) (search needs)
-    (no-digit (a .low) (a .high) (a .text .now) (a .from .at) (search needs)) is in
+    (no-digit decimalValue (a .low) (a .high) (a .text .now) (a .from .at) (search needs)) is in
     (read .0, read .1, rw is (omega arith))
 
 returns-3 : tie.Need-returns-3
@@ -34,7 +34,7 @@ returns-3 c =
     let is = c .stop-at3 .ensures in
     let read =
     stops (a .text .now) (a .from) (one decimalValue (a .low) (a .high)) (c .before .before .before .before .before .if1 .left) (a .from .at) (search needs)
-    (other-digit (a .low) (a .high) (a .text .now) (a .from .at) (v .result) (search needs) (v .ensures .0) (c .before .if3 .taken)) is in
+    (other-digit decimalValue (a .low) (a .high) (a .text .now) (a .from .at) (v .result) (search needs) (v .ensures .0) (c .before .if3 .taken)) is in
     (read .0, read .1, rw is (omega arith))
 
 returns-4 : tie.Need-returns-4
@@ -43,7 +43,7 @@ returns-4 c =
     let v = c .before .decimal-value in
     let read =
     gets (a .text .now) (a .from) (one decimalValue (a .low) (a .high)) (c .before .before .before .before .if1 .left) (a .from .at + 1) (search needs) (v .result)
-    (digit-read (a .low) (a .high) (a .text .now) (a .from .at) (v .result) (search needs) (v .ensures .0) (c .if3 .left)) refl in
+    (digit-read decimalValue (a .low) (a .high) (a .text .now) (a .from .at) (v .result) (search needs) (v .ensures .0) (c .if3 .left)) refl in
     (read .0, read .1, most (a .low) (a .high) (v .result) (c .if3 .left))
 
 pub read-digit-spec : {M : Type 1} → statement M
