@@ -1,0 +1,4 @@
+pub mod Listing
+pub mod Program
+pub mod Writing
+pub mod Reading
