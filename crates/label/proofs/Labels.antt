@@ -15,7 +15,8 @@ use Rattle.text_fields.specs.Digit.{hexValue, decimalValue}
 use Rattle.label.specs.Label.{InRange, hexDigit, hexDigits, versionText, seedText, mText, nText, labelOf}
 use Rattle.label.specs.Reader.{recipeOf, fromN, fromM, fromSeed, label}
 use Rattle.label.specs.declared.Recipe.{Recipe}
-use Rattle.label.proofs.Digits.{hexes, tens, hex-lowest, decimal-is, one-digit, two-digits}
+use Rattle.text_fields.proofs.Decimals.{tens, decimal-is, one-digit, two-digits}
+use Rattle.label.proofs.Digits.{hexes, hex-lowest}
 use Rattle.label.proofs.Range.{version-low, version-high, m-low, m-high, n-low, n-high, in-ranges}
 
 -- each field, as its reader knows it

@@ -13,7 +13,7 @@ use Rattle.word.proofs.Tests.{by-order}
 use Rattle.label.specs.Label.{ranged, labelOf, hexDigits, versionText, seedText, mText, nText}
 use Rattle.label.specs.Reading.{Valid}
 use Rattle.label.specs.declared.Recipe.{Recipe}
-use Rattle.label.proofs.Digits.{one-digit, two-digits, three-digits}
+use Rattle.text_fields.proofs.Decimals.{one-digit, two-digits, three-digits}
 use Rattle.label.proofs.Range.{version-high, m-low, m-high, n-high}
 
 hex-length : (k x : ℕ) → length (hexDigits k x) ≡ k

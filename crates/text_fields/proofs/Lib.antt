@@ -8,3 +8,4 @@ pub mod OneDigit
 pub mod Letters
 pub mod SixteenHex
 pub mod Toward
+pub mod Decimals
