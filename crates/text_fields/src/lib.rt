@@ -36,10 +36,10 @@ pub(crate) fn stop_at(at: usize) -> Cursor
     }
 }
 
-// Fixed bytes; their value is 0.
-pub fn read_literal(text: &[u8], from: Cursor, word: &[u8]) -> Cursor
+// Fixed bytes, and the value that they stand for.
+pub fn read_word(text: &[u8], from: Cursor, word: &[u8], value: u64) -> Cursor
     requires { ⌜ from .at ≤ length (now text) ⌝ }
-    ensures { λ r. ⌜ (r ≡ readBehind (lit (now (word .entry)) (done 0)) (now (text .entry)) from) × (r .at ≤ length (now (text .entry))) ⌝ }
+    ensures { λ r. ⌜ (r ≡ readBehind (lit (now (word .entry)) (done value)) (now (text .entry)) from) × (r .at ≤ length (now (text .entry))) ⌝ }
 {
     let at = from.at;
     if from.stopped {
@@ -59,9 +59,17 @@ pub fn read_literal(text: &[u8], from: Cursor, word: &[u8]) -> Cursor
     }
     Cursor {
         at: i,
-        value: 0,
+        value,
         stopped: false,
     }
+}
+
+// Fixed bytes; their value is 0.
+pub fn read_literal(text: &[u8], from: Cursor, word: &[u8]) -> Cursor
+    requires { ⌜ from .at ≤ length (now text) ⌝ }
+    ensures { λ r. ⌜ (r ≡ readBehind (lit (now (word .entry)) (done 0)) (now (text .entry)) from) × (r .at ≤ length (now (text .entry))) ⌝ }
+{
+    read_word(text, from, word, 0)
 }
 
 // One decimal digit of a range.
