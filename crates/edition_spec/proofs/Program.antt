@@ -13,6 +13,7 @@ use Rattle.word.proofs.Below.{AllBelow, each-below}
 use Rattle.word.proofs.Tests.{by-test, from-true}
 use Rattle.form.specs.Instruction.{instructionAt, instructionWords}
 use Rattle.form.specs.declared.Instruction.{Instruction}
+use Rattle.form_bytes.proofs.ReadBack.{written-length, word-read, instruction-read}
 use Rattle.rules.specs.Sizes.{programFits}
 use Rattle.rules.specs.Satisfies.{Words}
 use Rattle.edition_machine.specs.Encoding.{encodedAt}
@@ -22,7 +23,6 @@ use Rattle.edition_spec.specs.Translated.{oldInstruction, oldCount, tran
 use Rattle.edition_spec.specs.Told.{Translates}
 use Rattle.edition_spec.proofs.Known.{Known, known}
 use Rattle.edition_spec.proofs.Telling.{translatable-exactly}
-use Rattle.edition_spec.proofs.ReadBack.{written-length, word-read, instruction-read}
 
 -- the words of a translation are below p: operands that were, and flags
 translated-words : (e : Encoded) → Known e → IsWord (e .a) → IsWord (e .b) → IsWord (e .c) → AllBelow p (instructionWords (translated e))

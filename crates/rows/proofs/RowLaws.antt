@@ -1,7 +1,7 @@
 -- Reading a row undoes writing it, wherever it stands, and writing undoes reading.
 -- Assumes nothing.
 use mathlib.Core.Path.{_≡_, refl, sym, ap, _∙_}
-use mathlib.Core.List.{List, [], _∷_, _++_, append-nil}
+use mathlib.Core.List.{List, [], _∷_, _++_, append-assoc, append-nil}
 use Prim.Native.Nat.{ℕ, zero, suc, _+_, _*_, _^_, _≤_, _<_}
 use native.Mathlib.Nat.{add-zero}
 use native.Mathlib.Numerals.{add-one, add-two, add-three}
@@ -85,7 +85,7 @@ module _ (x : Ext) (f : Below (2 ^ 32) (extWords x)) (five : Fives x) where
   read-ext-at front back = ext-behind front _ ∙ ext-first x back f five
 
 -- n words from a byte on
-abbrev wordsAt : List ℕ → ℕ → ℕ → List ℕ
+abbrev pub wordsAt : List ℕ → ℕ → ℕ → List ℕ
 wordsAt s at zero = []
 wordsAt s at (suc n) = wordAt s at ∷ wordsAt s (at + 4) n
 
@@ -95,17 +95,23 @@ module _ (s : List ℕ) (b : Below 256 s) where
       ap (λ (l : List ℕ). l ++ drop (at + 4) s) (bytes-read _ _ _ _ (b at) (b (at + 1)) (b (at + 2)) (b (at + 3)))
       ∙ rw (add-one at, add-two at, add-three at) (elements-drop 4 at s h)
 
-  words-back : (n at : ℕ) → at + 4 * n ≡ length s → bytesOfWords (wordsAt s at n) ≡ drop at s
+  -- n words that are read and written again are their bytes
+  pub words-drop : (n at : ℕ) → at + 4 * n ≤ length s → bytesOfWords (wordsAt s at n) ++ drop (at + 4 * n) s ≡ drop at s
   unfolding bytesOfWords
-  words-back zero at e = sym (drop-of-length-le s {i = at} (omega arith))
-  words-back (suc n) at e =
-      ap (λ (l : List ℕ). bytesOf (wordAt s at) ++ l) (words-back n (at + 4) (omega arith)) ∙ word-back at (omega arith)
+  words-drop zero at h = rw (add-zero at)
+  words-drop (suc n) at h =
+      let e : at + 4 * suc n ≡ at + 4 + 4 * n = omega arith in
+      rw (e, append-assoc (bytesOf (wordAt s at)) (bytesOfWords (wordsAt s (at + 4) n)) (drop (at + 4 + 4 * n) s), words-drop n (at + 4) (omega arith))
+      (word-back at (omega arith))
+
+  words-back : (n : ℕ) → 4 * n ≡ length s → bytesOfWords (wordsAt s 0 n) ≡ s
+  words-back n e = rw (drop-of-length-le s {i = 0 + 4 * n} (omega arith), append-nil (bytesOfWords (wordsAt s 0 n))) at (words-drop n 0 (omega arith))
 
   -- writing undoes reading
   pub write-exec : length s ≡ 32 → bytesOfWords (execWords (execAt s 0)) ≡ s
   unfolding execAt
-  write-exec e = words-back 8 0 (sym e)
+  write-exec e = words-back 8 (sym e)
 
   pub write-ext : length s ≡ 120 → bytesOfWords (extWords (extAt s 0)) ≡ s
   unfolding extAt fiveAt
-  write-ext e = words-back 30 0 (sym e)
+  write-ext e = words-back 30 (sym e)

@@ -1,0 +1,3 @@
+pub mod ReadBack
+pub mod Rewritten
+pub mod Program

@@ -1,0 +1,5 @@
+pub mod Fields
+pub mod Parts
+pub mod Lines
+pub mod Listable
+pub mod ByFields
