@@ -2,18 +2,18 @@
 -- Assumes nothing.
 use mathlib.Core.Path.{_≡_}
 use mathlib.Core.List.{List}
-use Prim.Native.Nat.{ℕ, _+_, _*_, _/_, _%_, _^_, _<_}
+use Prim.Native.Nat.{ℕ, _+_, _*_, _/_, _^_, _<_}
 use native.Mathlib.Omega.{arith}
 use lib.Dec.{T, eqb, lit<}
 use lib.ListN.{length, getD}
-use borrow.Author.Tests.{eq-eqb, le-leb}
 use Rattle.word.specs.Word.{p, IsWord}
 use Rattle.word.specs.Bytes.{wordAt}
 use Rattle.word.proofs.Below.{AllBelow, each-below}
 use Rattle.word.proofs.Tests.{by-test, from-true}
 use Rattle.form.specs.Instruction.{instructionAt, instructionWords}
 use Rattle.form.specs.declared.Instruction.{Instruction}
-use Rattle.form_bytes.proofs.ReadBack.{written-length, word-read, instruction-read}
+use Rattle.form_bytes.proofs.ReadBack.{written-length, instruction-read}
+use Rattle.form_bytes.proofs.Program.{written-count, written-fits, written-words}
 use Rattle.rules.specs.Sizes.{programFits}
 use Rattle.rules.specs.Satisfies.{Words}
 use Rattle.edition_machine.specs.Encoding.{encodedAt}
@@ -64,15 +64,10 @@ module _ (old : List ℕ) (room : ℕ) (t : Translates old room) where
   long = written-length part (oldCount old)
 
   pub count-is : length (translatedProgram old) / 48 ≡ oldCount old
-  count-is = omega (arith, long)
+  count-is = written-count part (oldCount old)
 
   pub fits-program : T (programFits (length (translatedProgram old)))
-  fits-program =
-      from-true (programFits (length (translatedProgram old)))
-      (rw (count-is, eq-eqb (length (translatedProgram old) % 48) 0 (omega (arith, long)), le-leb 1 (oldCount old) (t .fit .least), le-leb (oldCount old) (2 ^ 20) (t .fit .most)))
+  fits-program = from-true (programFits (length (translatedProgram old))) (written-fits part (oldCount old) (t .fit .least) (t .fit .most))
 
   pub program-words : Words (translatedProgram old)
-  program-words k h =
-      let e : 4 * k ≡ 48 * (k / 12) + 4 * (k % 12) = omega arith in
-      let inside : k / 12 < oldCount old = omega (arith, h, long) in
-      rw (e, word-read part (oldCount old) (k / 12) inside (small-at (k / 12) inside) (k % 12) (omega arith)) (words-at (k / 12) inside (k % 12))
+  program-words = written-words part (oldCount old) words-at

@@ -2,6 +2,7 @@
 -- Assumes nothing.
 use mathlib.Core.Path.{_≡_, refl, sym, _∙_}
 use mathlib.Core.Bool.{true, cond, _||_}
+use mathlib.Core.Logic.{_↔_}
 use Prim.Native.Nat.{ℕ, zero, suc, _+_, _≤_, _<_}
 use native.Mathlib.Omega.{arith}
 use lib.Dec.{eqb, lit≤, lit<}
@@ -50,15 +51,10 @@ flagged Cell = record { one = lit≤ tt; number = refl }
 flagged Frame = record { one = lit≤ tt; number = refl }
 
 -- b is fp-relative exactly where a is
-frame-follows : (a b : Mode) → InRange (cond (eqb (modeNumber a) 2) (range 2 2) (range 0 1)) b → frameFlag b ≡ frameFlag a
-frame-follows Immediate b r = omega (arith, flagged b)
-frame-follows Cell b r = omega (arith, flagged b)
-frame-follows Frame b r = omega (arith, flagged b)
-
-range-follows : (a b : Mode) → frameFlag b ≡ frameFlag a → InRange (cond (eqb (modeNumber a) 2) (range 2 2) (range 0 1)) b
-range-follows Immediate b e = omega (arith, flagged b)
-range-follows Cell b e = omega (arith, flagged b)
-range-follows Frame b e = omega (arith, flagged b)
+follows : (a b : Mode) → InRange (cond (eqb (modeNumber a) 2) (range 2 2) (range 0 1)) b ↔ (frameFlag b ≡ frameFlag a)
+follows Immediate b = (λ r. omega (arith, flagged b), λ e. omega (arith, flagged b))
+follows Cell b = (λ r. omega (arith, flagged b), λ e. omega (arith, flagged b))
+follows Frame b = (λ r. omega (arith, flagged b), λ e. omega (arith, flagged b))
 
 -- the flags of two that exclude each other pass the test
 apart : (x y : ℕ) → x + y ≤ 1 → eqb x 0 || eqb y 0 ≡ true
@@ -92,11 +88,11 @@ module _ (f : Form) (l : Listable f) where
   same-frame = by-kind (f .kind) (f .a .mode) (f .b .mode) (l .a-mode) (l .b-mode)
     where
       by-kind : (k : Kind) (a b : Mode) → InRange (aRange (kindNumber k)) a → InRange (bRange (kindNumber k) (modeNumber a)) b → frameFlag b ≡ frameFlag a
-      by-kind Add a b r s = frame-follows a b s
-      by-kind Mul a b r s = frame-follows a b s
+      by-kind Add a b r s = follows a b .0 s
+      by-kind Mul a b r s = follows a b .0 s
       by-kind Deref a b r s = omega (arith, flagged a, flagged b)
-      by-kind Jump a b r s = frame-follows a b s
-      by-kind (Extension op be n) a b r s = frame-follows a b s
+      by-kind Jump a b r s = follows a b .0 s
+      by-kind (Extension op be n) a b r s = follows a b .0 s
 
   its-flags : Flags (instructionOf f)
   unfolding instructionOf
@@ -140,7 +136,7 @@ module _ (f : Form) (l : Listable f) where
   unfolding instructionOf
   words-small =
       each-below (instructionWords (instructionOf f))
-      (omega (arith, l .a-word, l .b-word, l .c-word, flagged (f .a .mode) .one, flagged (f .b .mode) .one, flagged (f .c .mode) .one, opcode-small (f .kind), call-below (f .kind) (l .call)))
+      (omega (arith, opcode-small (f .kind), call-below (f .kind) (l .call), flagged (f .a .mode), flagged (f .b .mode), flagged (f .c .mode)))
 
 -- the mode of two flags, of which one at most is 1, has these flags
 mode-flags : (x y : ℕ) → x + y ≤ 1 → (immediateFlag (operandOf x y 0 .mode) ≡ x) × (frameFlag (operandOf x y 0 .mode) ≡ y)
@@ -171,7 +167,7 @@ module _ (i : Instruction) (f : Form) (is : Formed i f) where
   c-flags = rw (is .c-is) (mode-flags (i .fc) (i .fpc) (is .flags .c))
 
   b-follows : InRange (cond (eqb (modeNumber (f .a .mode)) 2) (range 2 2) (range 0 1)) (f .b .mode)
-  b-follows = range-follows (f .a .mode) (f .b .mode) (b-flags .1 ∙ sym (a-flags .1))
+  b-follows = follows (f .a .mode) (f .b .mode) .1 (b-flags .1 ∙ sym (a-flags .1))
 
   c-any : InRange (range 0 2) (f .c .mode)
   c-any = omega (arith, flagged (f .c .mode))

@@ -45,6 +45,12 @@ unique j k p q =
     let b = q .attained in
     omega (arith, q .most (a .0) (a .1), a .2, p .most (b .0) (b .1), b .2)
 
+-- and the same one among texts that are valid in another wording
+pub same-place : {U W : List ℕ → Type 0} → ((t : List ℕ) → U t ↔ W t) → {t : List ℕ} {k : ℕ} → Place U t k → Place W t k
+same-place f p =
+    let a = p .attained in
+    record { attained = (a .0, f (a .0) .0 (a .1), a .2); most = λ w h. p .most w (f w .1 h) }
+
 module _ {S : Type 0} (next : S → ℕ → Option S) where
   follow-on : (b : ℕ) (t : List ℕ) (s q : S) → next s b ≡ some q → follow next s (b ∷ t) ≡ follow next q t
   unfolding follow

@@ -64,6 +64,19 @@ module _ {A : Type 0} where
       cases (ok b) (λ e. (e, parse-spells (f b) t a (rw e at h)))
       (λ e. let y = rw e at h in let z : _≡_ {A = ℕ} 0 1 = cc in absurd (omega arith))
 
+  -- a value that is read is one of the kind, whatever follows
+  pub parse-kind : (o : Bool) (P : A → Type 0) (f : Pattern A) (t : List ℕ) (a : A) (r : List ℕ) → Live o P f → parse f t ≡ got a r → P a
+  unfolding parse
+  parse-kind o P (done x) t a r l e = let z : x ≡ a = cc in subst P z l
+  parse-kind o P (node ok f) [] a r l e = let z : _≡_ {A = ℕ} 0 1 = cc in absurd (omega arith)
+  parse-kind o P (node ok f) (b ∷ t) a r l e =
+      cases (ok b) (λ h. parse-kind o P (f b) t a r (l .1 b h) (rw h at e))
+      (λ h. let y = rw h at e in let z : _≡_ {A = ℕ} 0 1 = cc in absurd (omega arith))
+  parse-kind o P (more x ok f) [] a r l e = let z : x ≡ a = cc in subst P z (l .1)
+  parse-kind o P (more x ok f) (b ∷ t) a r l e =
+      cases (ok b) (λ h. parse-kind o P (f b) t a r (l .2 b h) (rw h at e))
+      (λ h. let y = rw h at e in let z : x ≡ a = cc in subst P z (l .1))
+
 -- what a reading that goes as far as it can owes
 abbrev pub ParseOwed : {A : Type 0} → (A → Type 0) → (A → List ℕ) → List ℕ → Parsed A → Type 0
 ParseOwed P write t (got a []) = P a × (write a ≡ t)
