@@ -147,7 +147,7 @@ not-both fs t e = let z : _≡_ {A = ℕ} 0 1 = cc in omega arith
 pub one-whole : (fs gs : List Form) → whole fs ≡ whole gs → fs ≡ gs
 one-whole fs gs e = cc
 
-whole-got : (p : Parsed (List Form)) (gs : List Form) → endOf p ≡ whole gs → p ≡ got gs []
+pub whole-got : (p : Parsed (List Form)) (gs : List Form) → endOf p ≡ whole gs → p ≡ got gs []
 whole-got (got fs []) gs e = ap (λ (x : List Form). got x []) (one-whole fs gs e)
 whole-got (got fs (b ∷ t)) gs e = absurd (not-both gs (b ∷ t) (sym e))
 whole-got (left t) gs e = absurd (not-both gs t (sym e))

@@ -1,1 +1,3 @@
 pub mod Ends
+pub mod Filling
+pub mod Answered

@@ -1,68 +1,80 @@
+-- By how the walk ended, and by the room.
+use Prim.Native.Nat.{_≤_}
+use mathlib.Core.Bool.{Bool, true, false}
+use mathlib.Core.List.{List}
+use Prim.Native.Nat.{ℕ}
+use mathlib.Core.Path.{_≡_, refl, ap, subst, _∙_}
+use native.Mathlib.Omega.{arith}
 use borrow.Author.Needs.{needs}
+use lib.ListN.{length}
+use Rattle.listing_reader.specs.Walk.{Wholly, WalkedBy, WalkRead}
+use Rattle.listing_reader.specs.declared.Walked.{Walked}
+use Rattle.listing_reader.proofs.Answered.{at-fits, no-listing, lines-most, too-short, assembles}
 use Rattle.listing_reader.proofs.read_listing.Statement.{statement}
 use Rattle.listing_reader.proofs.read_listing.Tie as tie
-use Rattle.listing_reader.proofs.read_listing.Reads as reads
-use Rattle.listing_reader.proofs.read_listing.Lts as lts
-use Rattle.listing_reader.proofs.fill.put_forms.Reads as put-forms-reads
-use Rattle.listing_reader.proofs.refused.Reads as refused-reads
-use Rattle.listing_reader.proofs.walk.walk_lines.Reads as walk-lines-reads
 
--- src/lib.rt:31:9
-walk-lines-requires : tie.Need-walk-lines-requires
-walk-lines-requires c κs = search needs
+-- the walk's promise, where it stopped and where it did not
+known : (b : Bool) (text : List ℕ) (r : Walked) → r .stopped ≡ b → WalkRead text r → WalkedBy b text r
+known b text r e w = subst (λ (x : Bool). WalkedBy x text r) e w
 
--- src/lib.rt:34:20
-cast-t7 : tie.Need-cast-t7
-cast-t7 c = ?
+place-fits : tie.Need-cast-t7
+place-fits c =
+    let r = c .before .before .walk-lines in
+    let s = c .before .before .before .before .before in
+    let w = known true (s .args .text .now) (r .result) (c .before .if1 .taken) (r .ensures) in
+    omega (arith, at-fits (s .args .text .now) (s .args .program .now) (r .result .at) (w .0) (w .1))
 
--- src/lib.rt:33:9
-refused-requires : tie.Need-refused-requires
-refused-requires c κs = search needs
-
--- src/lib.rt:33:9
 returns : tie.Need-returns
-returns c = ?
+returns c =
+    let r = c .before .before .before .walk-lines in
+    let s = c .before .before .before .before .before .before in
+    let w = known true (s .args .text .now) (r .result) (c .before .before .if1 .taken) (r .ensures) in
+    no-listing (s .args .text .now) (s .args .program .now) (r .result .at) (w .0) (w .1) (c .refused .ensures)
 
--- src/lib.rt:38:18
-mul-needed : tie.Need-mul-needed
-mul-needed c = ?
+needed-fits : tie.Need-mul-needed
+needed-fits c =
+    let r = c .before .walk-lines in
+    let s = c .before .before .before .before in
+    omega (arith, lines-most (s .args .text .now) (s .args .program .now) (r .result .lines) (known false (s .args .text .now) (r .result) (c .if1 .left) (r .ensures)))
 
--- src/lib.rt:41:20
-cast-t10 : tie.Need-cast-t10
-cast-t10 c = ?
+short-fits : tie.Need-cast-t10
+short-fits c =
+    let r = c .before .before .walk-lines in
+    let s = c .before .before .before .before .before in
+    omega (arith, lines-most (s .args .text .now) (s .args .program .now) (r .result .lines) (known false (s .args .text .now) (r .result) (c .before .if1 .left) (r .ensures)))
 
--- src/lib.rt:40:9
-refused-requires-2 : tie.Need-refused-requires-2
-refused-requires-2 c κs = search needs
-
--- src/lib.rt:40:9
 returns-2 : tie.Need-returns-2
-returns-2 c = ?
+returns-2 c =
+    let r = c .before .before .before .walk-lines in
+    let s = c .before .before .before .before .before .before in
+    let w = known false (s .args .text .now) (r .result) (c .before .before .if1 .left) (r .ensures) in
+    too-short (s .args .text .now) (s .args .program .now) (r .result .lines) w (c .before .if2 .taken) (c .refused2 .ensures)
 
--- src/lib.rt:44:5
 put-forms-requires : tie.Need-put-forms-requires
-put-forms-requires c κs = ?
+put-forms-requires c κs =
+    let r = c .before .before .before .walk-lines in
+    let s = c .before .before .before .before .before .before in
+    (known false (s .args .text .now) (r .result) (c .before .before .if1 .left) (r .ensures), c .before .if2 .left)
 
--- src/lib.rt:28:1
-same-length : tie.Need-same-length
-same-length c = search needs
-
--- src/lib.rt:28:1
 returns-3 : tie.Need-returns-3
-returns-3 c = ?
+returns-3 c =
+    let r = c .before .before .before .before .before .before .walk-lines in
+    let s = c .before .before .before .before .before .before .before .before .before in
+    let w = known false (s .args .text .now) (r .result) (c .before .before .before .before .before .if1 .left) (r .ensures) in
+    assembles (s .args .text .now) (s .args .program .now) (r .result .lines) w (c .before .before .before .before .if2 .left) refl (c .before .before .put-forms .ensures)
 
 pub read-listing-spec : {M : Type 1} → statement M
 read-listing-spec =
     tie.close
     (tie.spec
-    walk-lines-requires
-    cast-t7
-    refused-requires
+    (λ c κs. search needs)
+    place-fits
+    (λ c κs. search needs)
     returns
-    mul-needed
-    cast-t10
-    refused-requires-2
+    needed-fits
+    short-fits
+    (λ c κs. search needs)
     returns-2
     put-forms-requires
-    same-length
+    (λ c. search needs)
     returns-3)

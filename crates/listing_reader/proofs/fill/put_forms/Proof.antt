@@ -1,72 +1,73 @@
+-- The invariant: the first i lines are read, and their instructions stand in front of what stood there.
+use Prim.Native.Nat.{ℕ, _-_, _*_, _≤_}
+use mathlib.Core.List.{List, [], _∷_, _++_}
+use mathlib.Core.Path.{_≡_, refl, sym, ap, _∙_}
+use native.Mathlib.Omega.{arith}
+use borrow.Author.Needs.{needs}
+use lib.ListN.{length, length-append}
+use Rattle.form.specs.declared.Form.{Form}
+use Rattle.text_patterns.specs.Pattern.{flat}
+use Rattle.listing_reader.specs.Walk.{End, filledBy}
+use Rattle.listing_reader.proofs.Ends.{Behind, begins}
+use Rattle.listing_reader.proofs.Filling.{filled, next-line, its-form, all-lines, one-more}
 use Rattle.listing_reader.proofs.fill.put_forms.Statement.{statement}
 use Rattle.listing_reader.proofs.fill.put_forms.Tie as tie
-use Rattle.listing_reader.proofs.fill.put_forms.Reads as reads
-use Rattle.listing_reader.proofs.fill.put_forms.Lts as lts
-use Rattle.form_bytes.proofs.put_instruction.Reads as put-instruction-reads
-use Rattle.listing_forms.proofs.instruction_of.Reads as instruction-of-reads
-use Rattle.listing_line.proofs.read_line.Reads as read-line-reads
 
 abbrev Inv-loop : tie.InvT-loop
-Inv-loop text lines program₀ place₀ i₀ program place i = ?
+Inv-loop text lines program₀ place₀ i₀ program place i =
+    (i ≤ lines) × (length program ≡ length program₀) × ((fs : List Form) × (length fs ≡ i) × Behind text place fs × (program ≡ filled fs program₀))
 
 abbrev μ-loop : tie.MeasureT-loop
-μ-loop text lines program₀ place₀ i₀ program place i = ?
+μ-loop text lines program₀ place₀ i₀ program place i = lines - i
 
--- src/fill.rt:17:5
 loop-holds : tie.Need-loop-holds Inv-loop μ-loop
-loop-holds c = ?
+unfolding flat
+loop-holds c = (omega arith, refl, ([], refl, begins _, refl))
 
--- src/fill.rt:18:13
 read-line-requires : tie.Need-read-line-requires Inv-loop μ-loop
-read-line-requires c κs = ?
+read-line-requires c κs = c .before .loop .inv .2 .2 .inside
 
--- src/fill.rt:19:18
-mul-at : tie.Need-mul-at Inv-loop μ-loop
-mul-at c = ?
-
--- src/fill.rt:20:19
-add-end : tie.Need-add-end Inv-loop μ-loop
-add-end c = ?
-
--- src/fill.rt:21:25
-sub-put-instruction : tie.Need-sub-put-instruction Inv-loop μ-loop
-sub-put-instruction c = ?
-
--- src/fill.rt:21:25
-part-put-instruction-start : tie.Need-part-put-instruction-start Inv-loop μ-loop
-part-put-instruction-start c = ?
-
--- src/fill.rt:21:25
-part-put-instruction-end : tie.Need-part-put-instruction-end Inv-loop μ-loop
-part-put-instruction-end c = ?
-
--- src/fill.rt:21:48
 instruction-of-requires : tie.Need-instruction-of-requires Inv-loop μ-loop
-instruction-of-requires c κs = ?
+instruction-of-requires c κs =
+    let l = c .before .before .before .loop in
+    let s = c .before .before .before .before .before .before in
+    let w = s .pre .0 in
+    let fs = l .inv .2 in
+    its-form (s .args .text .now) (w .forms) (w .ends) (l .place) (fs .0) (fs .2) (omega (arith, fs .1, w .many, c .before .before .loop-test .taken))
+    (c .before .read-line .result) (c .before .read-line .ensures) .call
 
--- src/fill.rt:21:9
-put-instruction-requires : tie.Need-put-instruction-requires Inv-loop μ-loop
-put-instruction-requires c κs = ?
-
--- src/fill.rt:23:9
-add-i : tie.Need-add-i Inv-loop μ-loop
-add-i c = ?
-
--- src/fill.rt:17:5
-loop-less : tie.Need-loop-less Inv-loop μ-loop
-loop-less c = ?
-
--- src/fill.rt:17:5
 loop-again : tie.Need-loop-again Inv-loop μ-loop
-loop-again c = ?
+loop-again c =
+    let put = c .before .before .put-instruction in
+    let made = c .before .before .before .instruction-of in
+    let read = c .before .before .before .before .before .read-line in
+    let l = c .before .before .before .before .before .before .before .loop in
+    let s = c .before .before .before .before .before .before .before .before .before .before in
+    let w = s .pre .0 in
+    let fs = l .inv .2 in
+    let more = c .before .before .before .before .before .before .loop-test .taken in
+    let size = c .before .program .given .1 in (
+      omega (arith, more),
+      omega (arith, size, l .inv .1),
+      (
+        fs .0 ++ (read .result .form ∷ []),
+        omega (arith, length-append (fs .0) (read .result .form ∷ []), fs .1),
+        next-line (s .args .text .now) (w .forms) (w .ends) (l .place) (fs .0) (fs .2) (omega (arith, fs .1, w .many, more)) (read .result) (read .ensures),
+        one-more (fs .0) (read .result .form) (s .args .program .now) (l .program) (put .last .0) (l .i) (fs .3) (fs .1) (omega (arith, more, s .pre .1, l .inv .1))
+        (made .result) (made .ensures) (put .ensures),
+      ),
+    )
 
--- src/fill.rt:11:1
-same-length : tie.Need-same-length Inv-loop μ-loop
-same-length c = ?
-
--- src/fill.rt:11:1
 returns : tie.Need-returns Inv-loop μ-loop
-returns c = ?
+returns c =
+    let l = c .before .loop in
+    let s = c .before .before .before .before in
+    let w = s .pre .0 in
+    let fs = l .inv .2 in
+    let same : length (fs .0) ≡ length (w .forms) = omega (arith, fs .1, w .many, l .inv .0, c .loop-test .left) in
+    fs .3
+    ∙ ap (λ (x : List Form). filled x (s .args .program .now)) (all-lines (s .args .text .now) (w .forms) (w .ends) (l .place) (fs .0) (fs .2) same)
+    ∙ ap (λ (x : End). filledBy x (s .args .program .now)) (sym (w .ends))
 
 pub put-forms-spec : {M : Type 1} → statement M
 put-forms-spec =
@@ -76,15 +77,15 @@ put-forms-spec =
     μ-loop
     loop-holds
     read-line-requires
-    mul-at
-    add-end
-    sub-put-instruction
-    part-put-instruction-start
-    part-put-instruction-end
+    (λ c. search needs)
+    (λ c. search needs)
+    (λ c. search needs)
+    (λ c. search needs)
+    (λ c. search needs)
     instruction-of-requires
-    put-instruction-requires
-    add-i
-    loop-less
+    (λ c κs. search needs)
+    (λ c. search needs)
+    (λ c. search needs)
     loop-again
-    same-length
+    (λ c. c .before .loop .inv .1)
     returns)

@@ -48,7 +48,7 @@ loop-again c =
     let l = c .before .before .before .before .loop in
     let i = l .inv in
     let r = c .before .read-line in
-    let few = omega (arith, i .1, i .3, c .before .before .if1 .left) in (
+    let few : length (i .0) < 1048576 = omega (arith, i .1, i .3, c .before .before .if1 .left) in (
       i .0 ++ (r .result .form ∷ []),
       omega (arith, length-append (i .0) (r .result .form ∷ []), i .1),
       goes _ (l .at) (i .0) (i .2) few (c .before .before .before .loop-test .taken) (r .result) (r .ensures) (c .if2 .left),
