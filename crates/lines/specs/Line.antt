@@ -1,4 +1,5 @@
--- Document 01, "Draws, recipe, label": a number in decimal, and a line of a name and such a number.
+-- Document 01, "Draws, recipe, label": a number in decimal, and a line of a name and such a number; document 02, M-105:
+-- such a number that another byte ends.
 use Prim.Native.Nat.{ℕ, zero, suc, _+_, _/_, _%_}
 use mathlib.Core.Bool.{cond}
 use mathlib.Core.List.{List, [], _∷_, _++_}
@@ -21,8 +22,12 @@ decimal x = decimalIn 20 x
 abbrev pub line : List ℕ → List ℕ
 line w = w ++ (10 ∷ [])
 
+-- a name, a number and the byte that ends it
+abbrev pub ended : List ℕ → ℕ → ℕ → List ℕ
+ended name number end = name ++ (decimal number ++ (end ∷ []))
+
 abbrev pub lineOf : List ℕ → ℕ → List ℕ
-lineOf name number = name ++ line (decimal number)
+lineOf name number = ended name number 10
 
 -- inner: a buffer with other bytes from a byte on
 abbrev pub over : List ℕ → ℕ → List ℕ → List ℕ

@@ -1,13 +1,14 @@
-// Lines of a name and a number, as the programs and a report print them: documents 01, "Draws, recipe, label", and 02.
+// Numbers behind a name, and lines of them, as the programs, a report and a listing have them: documents 01, "Draws,
+// recipe, label", and 02.
 mod decimal;
 
 use decimal::ended_digits;
 ghost use mathlib.Core.Path.{_≡_};
 ghost use Prim.Native.Nat.{_+_, _≤_};
 ghost use lib.ListN.{length};
-ghost use Rattle.lines.specs.Line.{over, lineOf};
+ghost use Rattle.lines.specs.Line.{over, ended, lineOf};
 
-// The digits of a number and LF, the bytes of a text from a byte on.
+// The digits of a number and the byte that ends it, the bytes of a text from a byte on.
 pub struct Digits {
     bytes: [u8; 21],
     from: usize,
@@ -26,6 +27,21 @@ pub fn put(bytes: &[u8], at: usize, out: &mut [u8]) -> usize
     at + bytes.len()
 }
 
+// A name, a number and the byte that ends it, from a byte of the buffer on, and where they end.
+pub fn put_number(name: &[u8], number: u64, end: u8, at: usize, out: &mut [u8]) -> usize
+    requires { ⌜ at + length (ended (now name) number end) ≤ length (now out) ⌝ }
+    ensures { λ r. ⌜
+        (r ≡ at + length (ended (now (name .entry)) number end))
+        × (now (out .exit) ≡ over (now (out .entry)) at (ended (now (name .entry)) number end))
+        ⌝ }
+{
+    let digits = ended_digits(number, end);
+    let bytes = digits.bytes;
+    let from = digits.from;
+    let middle = put(name, at, out);
+    put(&bytes[from..], middle, out)
+}
+
 // A line from a byte of the buffer on, and where it ends.
 pub fn put_line(name: &[u8], number: u64, at: usize, out: &mut [u8]) -> usize
     requires { ⌜ at + length (lineOf (now name) number) ≤ length (now out) ⌝ }
@@ -34,9 +50,5 @@ pub fn put_line(name: &[u8], number: u64, at: usize, out: &mut [u8]) -> usize
         × (now (out .exit) ≡ over (now (out .entry)) at (lineOf (now (name .entry)) number))
         ⌝ }
 {
-    let digits = ended_digits(number);
-    let bytes = digits.bytes;
-    let from = digits.from;
-    let middle = put(name, at, out);
-    put(&bytes[from..], middle, out)
+    put_number(name, number, 10, at, out)
 }

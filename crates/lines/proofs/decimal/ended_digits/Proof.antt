@@ -1,22 +1,22 @@
 -- `decimal::ended_digits` meets its contract. The invariant: the digits that are left, and then those that stand, are
 -- all. The measure is the number that is left.
 use Prim.Native.Nat.{suc, _-_, _^_, _≤_, _<_}
-use mathlib.Core.List.{_++_}
+use mathlib.Core.List.{[], _∷_, _++_}
 use mathlib.Core.Path.{_≡_, refl, sym, _∙_}
 use native.Mathlib.Omega.{arith}
 use borrow.Author.Needs.{needs}
 use lib.ListN.{length, drop, length-set}
-use Rattle.lines.specs.Line.{decimal, decimalIn, line}
+use Rattle.lines.specs.Line.{decimal, decimalIn}
 use Rattle.lines.proofs.Numbers.{digit-more, digit-last, power-left}
 use Rattle.lines.proofs.decimal.ended_digits.Statement.{statement}
 use Rattle.lines.proofs.decimal.ended_digits.Tie as tie
 
 abbrev Inv-loop : tie.InvT-loop
-Inv-loop number bytes₀ i₀ rest₀ bytes i rest =
-    (i ≤ 20) × (0 < i) × (rest < 10 ^ i) × (length bytes ≡ 21) × (line (decimal number) ≡ decimalIn i rest ++ drop i bytes)
+Inv-loop number end bytes₀ i₀ rest₀ bytes i rest =
+    (i ≤ 20) × (0 < i) × (rest < 10 ^ i) × (length bytes ≡ 21) × (decimal number ++ (end ∷ []) ≡ decimalIn i rest ++ drop i bytes)
 
 abbrev μ-loop : tie.MeasureT-loop
-μ-loop number bytes₀ i₀ rest₀ bytes i rest = rest
+μ-loop number end bytes₀ i₀ rest₀ bytes i rest = rest
 
 loop-holds : tie.Need-loop-holds Inv-loop μ-loop
 loop-holds c = (omega arith, omega arith, omega arith, refl, refl)
