@@ -2,26 +2,21 @@
 -- Assumes nothing.
 use Prim.Native.Nat.{ℕ, zero, suc, _+_, _-_, _^_, _≤_, _<_}
 use mathlib.Core.Bool.{Bool, true, false, cond}
-use mathlib.Core.List.{List, [], _++_, append-nil}
-use mathlib.Core.Path.{_≡_, refl, sym, ap, _∙_}
-use native.Mathlib.Nat.{add-zero}
+use mathlib.Core.List.{List, [], _++_}
+use mathlib.Core.Path.{_≡_, refl, ap, _∙_}
 use native.Mathlib.Omega.{arith}
 use borrow.Author.Tests.{eq-eqb, ne-eqb, lt-ltb, le-ltb}
 use lib.Dec.{eqb}
-use lib.ListN.{length, getD, take, drop, replicate, length-append, take-append-drop}
+use lib.ListN.{length, getD, drop, replicate, length-append}
 use Rattle.word.specs.Bytes.{concatenated}
 use Rattle.word.proofs.Concatenated.{parts-append, parts-one}
 use Rattle.rules.specs.Bus.{total}
 use Rattle.answer.specs.declared.Answer.{Answer}
 use Rattle.answer.specs.declared.Answer.the-variants.{Accepted, Size}
-use Rattle.lines.specs.Line.{line, decimal, decimalIn, over, lineOf}
+use Rattle.lines.specs.Line.{line, decimal, decimalIn, lineOf}
 use Rattle.lines.proofs.Numbers.{line-most}
 use Rattle.grid_spec.specs.Report.{nameOf, lineAt, reportOf, reportAnswer, reportLength, reportedIn}
 use Rattle.grid_report.proofs.Texts.{name-most}
-
--- no bytes leave a buffer as it is
-pub over-none : (out : List ℕ) (at : ℕ) → out ≡ over out at []
-over-none out at = sym (rw (append-nil (take at out), add-zero at) (take-append-drop at out))
 
 module _ (grid : List ℕ) where
   module _ (k : ℕ) where

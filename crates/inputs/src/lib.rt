@@ -3,6 +3,7 @@ mod size;
 mod walk;
 
 pub use size::bad_part;
+pub use size::program_fits;
 pub use walk::eight_words;
 pub use walk::first_word;
 pub use walk::first_word_unless;

@@ -28,7 +28,8 @@ fn is_power_of(bytes: usize, unit: usize, high: u32) -> bool
     (bytes % unit == 0) & is_power(bytes / unit, 8, high)
 }
 
-fn program_fits(bytes: usize) -> bool
+// Whether the bytes are 1 to 2^20 instructions.
+pub fn program_fits(bytes: usize) -> bool
     ensures { λ r. ⌜ r ≡ programFits bytes ⌝ }
 {
     (bytes % 48 == 0) & (1 <= bytes / 48) & (bytes / 48 <= 1048576)

@@ -1,11 +1,11 @@
 -- Bytes in the place of others; one text after another is both as one.
 -- Assumes nothing.
 use Prim.Native.Nat.{ℕ, _+_, _≤_}
-use mathlib.Core.List.{List, _++_, append-assoc}
+use mathlib.Core.List.{List, [], _++_, append-assoc, append-nil}
 use mathlib.Core.Path.{_≡_, sym, ap, _∙_}
-use native.Mathlib.Nat.{add-assoc, zero-add}
+use native.Mathlib.Nat.{add-assoc, add-zero, zero-add}
 use native.Mathlib.Omega.{arith}
-use lib.ListN.{length, take, drop, length-append, length-drop}
+use lib.ListN.{length, take, drop, length-append, length-drop, take-append-drop}
 use lib.Seq.{take-at, drop-at, drop-drop, length-take-le}
 use Rattle.lines.specs.Line.{over}
 
@@ -34,6 +34,10 @@ module _ (out : List ℕ) (at : ℕ) (bytes : List ℕ) where
         e,
         append-assoc (take at out) bytes next,
       )
+
+-- no bytes leave a buffer as it is
+pub over-none : (out : List ℕ) (at : ℕ) → out ≡ over out at []
+over-none out at = sym (rw (append-nil (take at out), add-zero at) (take-append-drop at out))
 
 -- bytes at the front
 pub over-front : (out bytes : List ℕ) → over out 0 bytes ≡ bytes ++ drop (length bytes) out

@@ -3,9 +3,9 @@ use native.Mathlib.Omega.{arith}
 use borrow.Author.Needs.{needs}
 use lib.ListN.{getD}
 use Rattle.lines.specs.Line.{line, decimal}
-use Rattle.lines.proofs.Placing.{stands-next}
+use Rattle.lines.proofs.Placing.{over-none, stands-next}
 use Rattle.grid_spec.specs.Report.{nameOf}
-use Rattle.grid_report.proofs.Counters.{over-none, zero-line, its-line, its-length}
+use Rattle.grid_report.proofs.Counters.{zero-line, its-line, its-length}
 use Rattle.grid_report.proofs.put_counter.Statement.{statement}
 use Rattle.grid_report.proofs.put_counter.Tie as tie
 

@@ -7,9 +7,9 @@ use borrow.Author.Needs.{needs}
 use lib.ListN.{length}
 use Rattle.word.specs.Bytes.{concatenated}
 use Rattle.word.proofs.Concatenated.{parts-one}
-use Rattle.lines.proofs.Placing.{Stands, stands-next, over-front}
+use Rattle.lines.proofs.Placing.{over-none, Stands, stands-next, over-front}
 use Rattle.grid_spec.specs.Report.{lineAt, reportOf}
-use Rattle.grid_report.proofs.Counters.{over-none, linesTo, room}
+use Rattle.grid_report.proofs.Counters.{linesTo, room}
 use Rattle.grid_report.proofs.put_lines.Statement.{statement}
 use Rattle.grid_report.proofs.put_lines.Tie as tie
 

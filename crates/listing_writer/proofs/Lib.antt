@@ -1,0 +1,3 @@
+pub mod Pieces
+pub mod Lengths
+pub mod Together
