@@ -1,16 +1,14 @@
 -- The writer's five answers, each with the text at return, and what a length that fits tells.
 -- Assumes nothing.
 use mathlib.Core.Path.{_≡_, refl, ap, _∙_}
-use mathlib.Core.Bool.{true, false, cond}
+use mathlib.Core.Bool.{true, false}
 use mathlib.Core.List.{List, [], _∷_}
 use Prim.Native.Nat.{ℕ, _/_, _%_, _^_, _≤_, _<_}
-use native.Mathlib.Omega.{arith}
 use lib.Dec.{eqb, leb}
 use lib.ListN.{length}
 use borrow.Author.Tests.{eqb-true, leb-true, lt-ltb, le-ltb, le-leb, lt-leb}
 use Rattle.word.proofs.Tests.{each}
 use Rattle.rules.specs.Sizes.{programFits, given}
-use Rattle.answer.specs.Verdicts.{accepted}
 use Rattle.answer.specs.declared.Answer.{Answer}
 use Rattle.answer.specs.declared.Answer.the-variants.{Accepted, Size, Word, Instruction, Short}
 use Rattle.judge_spec.specs.Judged.{firstWord, firstMalformed}

@@ -1,11 +1,13 @@
--- A form's line is its pieces, one after the other.
+-- A form's line is its pieces, one after the other, and an operand's piece its key and a number.
 -- Assumes nothing.
-use Prim.Native.Nat.{ℕ, _+_}
+use Prim.Native.Nat.{ℕ, _+_, _≤_}
 use mathlib.Core.Bool.{Bool, true, false}
 use mathlib.Core.List.{List, [], _∷_, _++_, append-assoc}
 use mathlib.Core.Path.{_≡_, refl, ap, _∙_}
+use native.Mathlib.Omega.{arith}
 use lib.ListN.{length, length-append}
 use Rattle.lines.specs.Line.{decimal, decimalIn, ended}
+use Rattle.lines.proofs.Placing.{Stands, stands-next}
 use Rattle.form.specs.declared.Op.{Op}
 use Rattle.form.specs.declared.Mode.{Mode}
 use Rattle.form.specs.declared.Operand.{Operand}
@@ -66,3 +68,12 @@ pieces-length f =
 pub operand-length : (key : List ℕ) (o : Operand) (end : ℕ) {m : Mode} → o .mode ≡ m
     → length (operandPiece key o end) ≡ length key + length (ended (modeName m) (o .word) end)
 operand-length key o end {m} e = rw e (length-append key (ended (modeName m) (o .word) end))
+
+-- and it stands where its key stands and then the number
+pub operand-stands : (out : List ℕ) (at : ℕ) (key : List ℕ) (o : Operand) (end : ℕ) {m : Mode} {middle last : ℕ} {l n : List ℕ} → o .mode ≡ m
+    → at + length (operandPiece key o end) ≤ length out
+    → Stands out at key middle l
+    → Stands l middle (ended (modeName m) (o .word) end) last n
+    → Stands out at (operandPiece key o end) last n
+operand-stands out at key o end {m} e room first then =
+    rw e (stands-next out at key (ended (modeName m) (o .word) end) (omega (arith, operand-length key o end e)) first then)

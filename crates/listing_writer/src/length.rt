@@ -23,6 +23,7 @@ fn digits(x: u32) -> usize
     more + 1
 }
 
+// The mode's name and the digits.
 fn operand_length(o: Operand) -> usize
     ensures { λ r. ⌜ (r ≡ length (operandText o)) × (r ≤ 15) ⌝ }
 {

@@ -31,22 +31,20 @@ pub fn list(program: &[u8], text: &mut [u8]) -> Transcribed
         return refused(Answer::Size { part: 1, place: 0 });
     }
     let walked = program_walk(program);
+    let malformed = walked.at;
     let word = first_word_unless(program, walked.words);
     if word < program.len() / 4 {
-        return refused(Answer::Word {
-            part: 1,
-            place: word as u32,
-        });
+        let place = word as u32;
+        return refused(Answer::Word { part: 1, place });
     }
-    let malformed = walked.at;
     if malformed < program.len() / 48 {
-        return refused(Answer::Instruction {
-            place: malformed as u32,
-        });
+        let place = malformed as u32;
+        return refused(Answer::Instruction { place });
     }
     let size = needed(program);
     if text.len() < size {
-        return refused(Answer::Short { place: size as u32 });
+        let place = size as u32;
+        return refused(Answer::Short { place });
     }
     put_all(program, &mut *text);
     Transcribed {

@@ -13,6 +13,7 @@ ghost use Rattle.lines.specs.Line.{over, ended};
 ghost use Rattle.listing_spec.specs.Listing.{formLine};
 ghost use Rattle.listing_writer.specs.Pieces.{opPiece, operandPiece, endOf, beText, callPiece};
 
+// op= and the operation.
 fn put_op(kind: Kind, at: usize, out: &mut [u8]) -> usize
     requires { ⌜ at + length (opPiece kind) ≤ length (now out) ⌝ }
     ensures { λ r. ⌜ (r ≡ at + length (opPiece kind)) × (now (out .exit) ≡ over (now (out .entry)) at (opPiece kind)) ⌝ }
@@ -30,6 +31,7 @@ fn put_op(kind: Kind, at: usize, out: &mut [u8]) -> usize
     }
 }
 
+// A key, an operand and the byte that ends it.
 fn put_operand(key: &[u8], o: Operand, end: u8, at: usize, out: &mut [u8]) -> usize
     requires { ⌜ at + length (operandPiece (now key) o end) ≤ length (now out) ⌝ }
     ensures { λ r. ⌜
@@ -60,6 +62,7 @@ fn end_of(kind: Kind) -> u8
     }
 }
 
+// be= and n= of an extension, and LF.
 fn put_be(be: bool, n: u32, at: usize, out: &mut [u8]) -> usize
     requires { ⌜ at + length (ended (beText be) n 10) ≤ length (now out) ⌝ }
     ensures { λ r. ⌜
@@ -73,6 +76,7 @@ fn put_be(be: bool, n: u32, at: usize, out: &mut [u8]) -> usize
     put_number(b"be=0 n=", n as u64, 10, at, out)
 }
 
+// What stands behind operand C: nothing, where that brought LF.
 fn put_call(kind: Kind, at: usize, out: &mut [u8]) -> usize
     requires { ⌜ at + length (callPiece kind) ≤ length (now out) ⌝ }
     ensures { λ r. ⌜ (r ≡ at + length (callPiece kind)) × (now (out .exit) ≡ over (now (out .entry)) at (callPiece kind)) ⌝ }

@@ -23,6 +23,7 @@ fn decoded_at(program: &[u8], i: usize) -> Decoded
     decode_known(instruction_inside(program, 48 * i))
 }
 
+// A malformed instruction has no line; none comes here.
 fn line_length(d: Decoded) -> usize
     ensures { λ r. ⌜ (r ≡ length (decodedLine d)) × (r ≤ 80) ⌝ }
 {
@@ -32,6 +33,7 @@ fn line_length(d: Decoded) -> usize
     }
 }
 
+// The line from a byte of the buffer on, and where it ends.
 fn put_decoded(d: Decoded, at: usize, out: &mut [u8]) -> usize
     requires { ⌜ at + length (decodedLine d) ≤ length (now out) ⌝ }
     ensures { λ r. ⌜ (r ≡ at + length (decodedLine d)) × (now (out .exit) ≡ over (now (out .entry)) at (decodedLine d)) ⌝ }
@@ -42,7 +44,7 @@ fn put_decoded(d: Decoded, at: usize, out: &mut [u8]) -> usize
     }
 }
 
-// The listing's length.
+// The listing's length: at most 80 bytes a line, so it fits in 32 bits.
 pub(crate) fn needed(program: &[u8]) -> usize
     requires { ⌜ WellFormed (now program) ⌝ }
     requires { ⌜ length (now program) / 48 ≤ 2 ^ 20 ⌝ }

@@ -27,8 +27,8 @@ program-walk-requires c κs = let s = c .before .before .before .before .args in
 first-word-unless-requires : tie.Need-first-word-unless-requires
 first-word-unless-requires c κs = program-words _ _ (c .program-walk .ensures .1)
 
-cast-t12 : tie.Need-cast-t12
-cast-t12 c =
+cast-place : tie.Need-cast-place
+cast-place c =
     let fits = c .before .before .before in
     let s = fits .before .before .before .before .args in
     record { fits = omega (arith, whole (s .program .now) (s .text .now) (fit fits), few (s .program .now) (s .text .now) (fit fits)) }
@@ -40,8 +40,8 @@ returns-2 c =
     rw (c .refused2 .ensures)
     (word-above (s .program .now) (s .text .now) (fit fits) _ (c .before .before .first-word-unless .ensures) (c .before .if2 .taken))
 
-cast-t14 : tie.Need-cast-t14
-cast-t14 c =
+cast-place-2 : tie.Need-cast-place-2
+cast-place-2 c =
     let fits = c .before .before .before .before in
     let s = fits .before .before .before .before .args in
     record { fits = omega (arith, few (s .program .now) (s .text .now) (fit fits)) }
@@ -96,10 +96,10 @@ list-spec =
     returns
     program-walk-requires
     first-word-unless-requires
-    cast-t12
+    cast-place
     (λ c κs. search needs)
     returns-2
-    cast-t14
+    cast-place-2
     (λ c κs. search needs)
     returns-3
     needed-requires

@@ -1,5 +1,5 @@
--- The invariant: what is above is the power of ten that has one zero more than `more`, and the one below is no more than
--- the word. The measure is what the word is above it.
+-- The invariant: what is above has one zero more than `more`, and the power of ten before it is at most the word.
+-- The measure is how far the word is above it.
 use Prim.Native.Nat.{suc, _+_, _-_, _^_, _≤_, _<_}
 use mathlib.Core.Path.{_≡_, refl}
 use native.Mathlib.Nat.{pow-suc, one-le-pow}

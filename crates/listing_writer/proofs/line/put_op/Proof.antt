@@ -1,8 +1,4 @@
 -- In each arm the kind is known, and the text is its own.
-use mathlib.Core.Path.{_≡_, ap, _∙_}
-use Prim.Native.Nat.{ℕ}
-use Rattle.form.specs.declared.Op.{Op}
-use Rattle.form.specs.declared.Kind.the-variants.{Extension}
 use borrow.Author.Needs.{needs}
 use Rattle.listing_writer.proofs.line.put_op.Statement.{statement}
 use Rattle.listing_writer.proofs.line.put_op.Tie as tie

@@ -2,11 +2,7 @@
 use native.Mathlib.Omega.{arith}
 use borrow.Author.Needs.{needs}
 use mathlib.Core.Path.{refl}
-use Rattle.form.specs.declared.Mode.the-variants.{Immediate, Cell, Frame}
-use Rattle.lines.specs.Line.{ended}
-use Rattle.lines.proofs.Placing.{stands-next}
-use Rattle.listing_spec.specs.Listing.{modeName}
-use Rattle.listing_writer.proofs.Pieces.{operand-length}
+use Rattle.listing_writer.proofs.Pieces.{operand-length, operand-stands}
 use Rattle.listing_writer.proofs.line.put_operand.Statement.{statement}
 use Rattle.listing_writer.proofs.line.put_operand.Tie as tie
 
@@ -36,32 +32,20 @@ put-number-requires-3 c κs =
 returns : tie.Need-returns
 returns c =
     let s = c .before .before .before .before .before .before .before .before .before .before .before .before .before .before in
-    let told = c .before .before .before .before .before .enum-told .given .1 in
-    rw told
-    (stands-next (s .args .out .now) (s .args .at) (s .args .key .now) (ended (modeName Immediate) (s .args .o .word) (s .args .end))
-    (omega (arith, s .pre, operand-length (s .args .key .now) (s .args .o) (s .args .end) told))
-    (c .before .before .before .before .before .before .before .before .before .put .ensures)
-    (c .before .before .put-number .ensures))
+    let put = c .before .before .before .before .before .before .before .before .before .put .ensures in
+    operand-stands (s .args .out .now) (s .args .at) (s .args .key .now) (s .args .o) (s .args .end) (c .before .before .before .before .before .enum-told .given .1) (s .pre) put (c .before .before .put-number .ensures)
 
 returns-2 : tie.Need-returns-2
 returns-2 c =
     let s = c .before .before .before .before .before .before .before .before .before .before .before .before .before .before in
-    let told = c .before .before .before .before .before .enum-told2 .given .1 in
-    rw told
-    (stands-next (s .args .out .now) (s .args .at) (s .args .key .now) (ended (modeName Cell) (s .args .o .word) (s .args .end))
-    (omega (arith, s .pre, operand-length (s .args .key .now) (s .args .o) (s .args .end) told))
-    (c .before .before .before .before .before .before .before .before .before .put .ensures)
-    (c .before .before .put-number2 .ensures))
+    let put = c .before .before .before .before .before .before .before .before .before .put .ensures in
+    operand-stands (s .args .out .now) (s .args .at) (s .args .key .now) (s .args .o) (s .args .end) (c .before .before .before .before .before .enum-told2 .given .1) (s .pre) put (c .before .before .put-number2 .ensures)
 
 returns-3 : tie.Need-returns-3
 returns-3 c =
     let s = c .before .before .before .before .before .before .before .before .before .before .before .before .before .before in
-    let told = c .before .before .before .before .before .enum-told3 .given .1 in
-    rw told
-    (stands-next (s .args .out .now) (s .args .at) (s .args .key .now) (ended (modeName Frame) (s .args .o .word) (s .args .end))
-    (omega (arith, s .pre, operand-length (s .args .key .now) (s .args .o) (s .args .end) told))
-    (c .before .before .before .before .before .before .before .before .before .put .ensures)
-    (c .before .before .put-number3 .ensures))
+    let put = c .before .before .before .before .before .before .before .before .before .put .ensures in
+    operand-stands (s .args .out .now) (s .args .at) (s .args .key .now) (s .args .o) (s .args .end) (c .before .before .before .before .before .enum-told3 .given .1) (s .pre) put (c .before .before .put-number3 .ensures)
 
 pub put-operand-spec : {M : Type 1} → statement M
 put-operand-spec =
