@@ -5,6 +5,7 @@ mod walk;
 use answer::Answer;
 use fill::put_forms;
 use listing_spec::Transcribed;
+use listing_spec::refused;
 use walk::walk_lines;
 ghost use mathlib.Core.Path.{_≡_};
 ghost use Rattle.listing_spec.specs.Reading.{Assembles};
@@ -14,13 +15,6 @@ pub struct Walked {
     pub at: usize,
     pub lines: usize,
     pub stopped: bool,
-}
-
-// A refusal writes nothing.
-fn refused(answer: Answer) -> Transcribed
-    ensures { λ r. ⌜ r ≡ record { answer = answer; written = 0 } ⌝ }
-{
-    Transcribed { answer, written: 0 }
 }
 
 // The program of a listing; or the place where the text leaves every valid one, or the bytes needed. A refusal changes

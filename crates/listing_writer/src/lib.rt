@@ -8,17 +8,11 @@ use inputs::first_word_unless;
 use inputs::program_fits;
 use inputs::program_walk;
 use listing_spec::Transcribed;
+use listing_spec::refused;
 use walk::needed;
 use walk::put_all;
 ghost use mathlib.Core.Path.{_≡_};
 ghost use Rattle.listing_spec.specs.Writing.{listed, listedIn};
-
-// A refusal writes nothing.
-fn refused(answer: Answer) -> Transcribed
-    ensures { λ r. ⌜ r ≡ record { answer = answer; written = 0 } ⌝ }
-{
-    Transcribed { answer, written: 0 }
-}
 
 // A program's listing at the text's start; the bytes after it stay, and a refusal changes none.
 pub fn list(program: &[u8], text: &mut [u8]) -> Transcribed

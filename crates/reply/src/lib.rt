@@ -6,7 +6,8 @@ use word::put_word;
 ghost use mathlib.Core.Path.{_≡_};
 ghost use lib.ListN.{length};
 ghost use Rattle.rows.specs.Rows.{putRow};
-ghost use Rattle.reply.specs.Reply.{answerBytes, inOrder, returned, replied};
+ghost use Rattle.answer.specs.declared.Answer.the-variants.{Buffer};
+ghost use Rattle.reply.specs.Reply.{verdictOf, answerBytes, inOrder, returned, replied};
 
 // Six numbers into 24 bytes.
 fn put_numbers(buffer: &mut [u8], n: Numbers)
@@ -32,4 +33,12 @@ pub fn reply(buffer: &mut [u8], a: Answer) -> u32
     let six = six_numbers(a);
     put_numbers(buffer, six);
     six.verdict
+}
+
+// ANSWER's number, where a buffer of fixed length has another and nothing is written.
+pub fn misfit() -> u32
+    ensures { λ r. ⌜ r ≡ verdictOf Buffer ⌝ }
+{
+    let numbers = six_numbers(Answer::Buffer);
+    numbers.verdict
 }

@@ -1,31 +1,22 @@
 // Form counts as C calls give them: document 02, M-100. The library's functions hand on to these.
 use answer::Answer;
 use answer::accepted;
-use answer::six_numbers;
 use grid::count;
 use grid_bytes::read_grid;
 use grid_bytes::write_grid;
 use grid_report::report;
 use long::put_long;
 use reply::reply;
+use reply::misfit;
 ghost use mathlib.Core.Path.{_≡_};
 ghost use mathlib.Core.Bool.{cond, _&&_};
 ghost use lib.Dec.{eqb};
 ghost use lib.ListN.{length};
 ghost use Rattle.answer.specs.Verdicts.{accepted};
-ghost use Rattle.answer.specs.declared.Answer.the-variants.{Buffer};
-ghost use Rattle.reply.specs.Reply.{answerBytes, verdictOf};
+ghost use Rattle.reply.specs.Reply.{answerBytes};
 ghost use Rattle.grid_bytes.specs.GridBytes.{gridBytes};
 ghost use Rattle.uisnabar_forms.specs.CountCall.{partsOf, countReturned, countGridLeft, countAnswerLeft};
 ghost use Rattle.uisnabar_forms.specs.ReportCall.{reportReturned, reportTextLeft, reportWrittenLeft, reportAnswerLeft};
-
-// ANSWER's number.
-fn unfit() -> u32
-    ensures { λ r. ⌜ r ≡ verdictOf Buffer ⌝ }
-{
-    let numbers = six_numbers(Answer::Buffer);
-    numbers.verdict
-}
 
 // Whether the buffers of fixed length have it.
 fn count_fits(grid: usize, answer: usize) -> bool
@@ -66,7 +57,7 @@ pub fn count_call(
     ensures { λ _. ⌜ now (answer .exit) ≡ countAnswerLeft (partsOf (now (program .entry)) (now (memory .entry)) pc fp (now (exec .entry)) (now (ext .entry))) (now (grid .entry)) (now (answer .entry)) ⌝ }
 {
     if !count_fits(grid.len(), answer.len()) {
-        return unfit();
+        return misfit();
     }
     let counted = count(read_grid(grid), program, memory, pc, fp, exec, ext);
     let a = counted.answer;
@@ -83,7 +74,7 @@ pub fn report_call(grid: &[u8], text: &mut [u8], written: &mut [u8], answer: &mu
     ensures { λ _. ⌜ now (answer .exit) ≡ reportAnswerLeft (now (grid .entry)) (now (text .entry)) (now (written .entry)) (now (answer .entry)) ⌝ }
 {
     if !report_fits(grid.len(), written.len(), answer.len()) {
-        return unfit();
+        return misfit();
     }
     let reported = report(read_grid(grid), text);
     let length = reported.length;

@@ -11,7 +11,7 @@ returns : tie.Need-returns
 returns c =
     let s = c .before .before .before .before .before .before .before .before .before .args in
     let q = partsOf (s .program .now) (s .memory .now) (s .pc) (s .fp) (s .exec .now) (s .ext .now) in
-    unfit-call q (s .grid .now) (s .answer .now) (sym (c .before .before .count-fits .ensures) ∙ not-true _ (c .before .if1 .taken)) _ (c .unfit .ensures)
+    unfit-call q (s .grid .now) (s .answer .now) (sym (c .before .before .count-fits .ensures) ∙ not-true _ (c .before .if1 .taken)) _ (c .misfit .ensures)
 
 read-grid-requires : tie.Need-read-grid-requires
 read-grid-requires c κs =

@@ -10,7 +10,7 @@ use Rattle.uisnabar_forms.proofs.report_call.Tie as tie
 returns : tie.Need-returns
 returns c =
     let s = c .before .before .before .before .before .before .before .args in
-    unfit-call (s .grid .now) (s .text .now) (s .written .now) (s .answer .now) (sym (c .before .before .report-fits .ensures) ∙ not-true _ (c .before .if1 .taken)) _ (c .unfit .ensures)
+    unfit-call (s .grid .now) (s .text .now) (s .written .now) (s .answer .now) (sym (c .before .before .report-fits .ensures) ∙ not-true _ (c .before .if1 .taken)) _ (c .misfit .ensures)
 
 read-grid-requires : tie.Need-read-grid-requires
 read-grid-requires c κs =
