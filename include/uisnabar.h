@@ -1,5 +1,5 @@
 /* Uisnabar's C library: the judge of leanVM tables, counts of the instruction forms that they reach, programs from
- * draft 0.5.0, and the reader of labels.
+ * draft 0.5.0, listings of programs, and the reader of labels.
  *
  * Link with libuisnabar.a, as `./bench lib` builds it (x86-64, System V calls); where it is installed, pkg-config
  * knows it as uisnabar. Every function returns; they keep nothing between calls and use no heap; they may be called
@@ -29,7 +29,7 @@
 #include <stdint.h>
 
 /* The version of this header and of the library it was made for. */
-#define UISNABAR_VERSION "3.0.0"
+#define UISNABAR_VERSION "3.1.0"
 /* The length of `answer`, and of `recipe`. Later versions may ask for more: use these names, and no number. */
 #define UISNABAR_ANSWER_BYTES 24
 #define UISNABAR_RECIPE_BYTES 20
@@ -37,6 +37,8 @@
 #define UISNABAR_GRID_BYTES 1080
 #define UISNABAR_WRITTEN_BYTES 8
 #define UISNABAR_REPORT_BYTES 5076
+/* The longest line of a listing, its LF too: a listing of L instructions has at most L times so many bytes. */
+#define UISNABAR_LINE_BYTES 77
 /* A call uses no more stack than this; uisnabar_count, which holds a grid beside the judge, no more than the second. */
 #define UISNABAR_STACK_BYTES 24576
 #define UISNABAR_COUNT_STACK_BYTES 25600
@@ -66,7 +68,9 @@ enum uisnabar_verdict {
     UISNABAR_SELF = 12,
     UISNABAR_ANSWER = 13,     /* a buffer of fixed length is of another; nothing is written */
     UISNABAR_GRID = 14,       /* the counters' total would pass 2^63 - 1 */
-    UISNABAR_EDITION = 15     /* place: the first instruction of draft 0.5.0 that is not translatable */
+    UISNABAR_EDITION = 15,    /* place: the first instruction of draft 0.5.0 that is not translatable */
+    UISNABAR_LISTING = 16,    /* place: longest prefix shared with any valid listing */
+    UISNABAR_SHORT = 17       /* place: bytes that the buffer for a listing, or for its program, would need */
 };
 
 /* A verdict's name. */
@@ -89,6 +93,8 @@ static inline const char *uisnabar_name(uint32_t verdict)
     case UISNABAR_ANSWER: return "ANSWER";
     case UISNABAR_GRID: return "GRID";
     case UISNABAR_EDITION: return "EDITION";
+    case UISNABAR_LISTING: return "LISTING";
+    case UISNABAR_SHORT: return "SHORT";
     }
     return "unknown";
 }
@@ -164,6 +170,44 @@ uint32_t uisnabar_report(const uint8_t *grid, size_t grid_len, uint8_t *text, si
  */
 uint32_t uisnabar_translate(const uint8_t *old, size_t old_len, uint8_t *program, size_t program_len,
                             uint8_t *answer, size_t answer_len);
+
+/* A program's listing: text that a person can read and type. Every program that is accepted here has one listing, which
+ * uisnabar_read_listing reads back as it, byte for byte, and no other text does.
+ *
+ *   program  1 to 2^20 instructions of 48 bytes, as the judge takes them
+ *   text     any length, at most UISNABAR_LINE_BYTES for each instruction are ever needed; bytes after the listing keep
+ *            what they held; written on ACCEPTED alone
+ *   written  UISNABAR_WRITTEN_BYTES, little-endian: the listing's length, 0 on a refusal
+ *   answer   UISNABAR_ANSWER_BYTES, written on every verdict but ANSWER
+ *
+ * An instruction is a line ended by LF, of fields with a single space between them, in this order: `op=`, which is add,
+ * mul, deref, jump, xadd, xmul or xpeq; `a=`, `b=` and `c=`, each `imm:`, `cell:` or `fp:` and a decimal word; and for
+ * xadd, xmul and xpeq `be=`, 0 or 1, and `n=`, 1 to 1048576. No number has leading zeros. docs/LISTING.md says which
+ * operand may stand where. Two lines:
+ *
+ *     op=add a=cell:1 b=imm:2 c=fp:3
+ *     op=xmul a=fp:1 b=fp:2 c=cell:3 be=1 n=4
+ *
+ * Returns ACCEPTED; SIZE, WORD or INSTRUCTION, part 1, as the judge has them; SHORT, with the bytes needed as place,
+ * where text_len is less; or ANSWER where written_len or answer_len is another; nothing is written then. Tests run in
+ * number order, ANSWER first. A call with text_len 0 so gives the length of a listing before it is written.
+ */
+uint32_t uisnabar_list(const uint8_t *program, size_t program_len, uint8_t *text, size_t text_len,
+                       uint8_t *written, size_t written_len, uint8_t *answer, size_t answer_len);
+
+/* The program that a listing stands for: 48 bytes for each line, every instruction well-formed, as the judge takes it.
+ *
+ *   text     the whole listing, as above: 1 to 2^20 lines, each ended by LF, the last too
+ *   program  any length; bytes after the program keep what they held; written on ACCEPTED alone
+ *   written  UISNABAR_WRITTEN_BYTES, little-endian: the program's length, 0 on a refusal
+ *   answer   UISNABAR_ANSWER_BYTES, written on every verdict but ANSWER
+ *
+ * Returns ACCEPTED; LISTING, place: the first byte that no valid listing that begins so could have there, or the text's
+ * length where it ends too soon; SHORT, place: the bytes needed, 48 for each line, where program_len is less; or ANSWER
+ * where written_len or answer_len is another; nothing is written then. Tests run in number order, ANSWER first.
+ */
+uint32_t uisnabar_read_listing(const uint8_t *text, size_t text_len, uint8_t *program, size_t program_len,
+                               uint8_t *written, size_t written_len, uint8_t *answer, size_t answer_len);
 
 /* The label reader.
  *
