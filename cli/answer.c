@@ -13,8 +13,8 @@ struct answer answer_of(uint32_t verdict, const uint8_t *bytes)
 
 int status_of(struct answer answer) { return answer.verdict == UISNABAR_ACCEPTED ? ACCEPTED : REFUSED; }
 
-void print_lines(struct answer answer)
+void print_lines(FILE *out, struct answer answer)
 {
-    printf("verdict=%u\npart=%u\nplace=%u\nrule=%u\nexpected=%u\nfound=%u\n", answer.verdict, answer.part, answer.place, answer.rule,
+    fprintf(out, "verdict=%u\npart=%u\nplace=%u\nrule=%u\nexpected=%u\nfound=%u\n", answer.verdict, answer.part, answer.place, answer.rule,
            answer.expected, answer.found);
 }

@@ -1,5 +1,5 @@
 /* What the files of the command share. Every judgement is the library's: nothing here tests a rule. (Of what it refused,
- * edition.c says why an instruction was, and lookups.c which cell a lookup was of.) */
+ * edition.c says why an instruction was, lookups.c which cell a lookup was of, and expected.c what a listing lacks.) */
 #ifndef CLI_H
 #define CLI_H
 
@@ -17,6 +17,9 @@ enum { ACCEPTED = 0, REFUSED = 1, FAILED = 2 };
 
 /* the parts as an answer numbers them; OLD, a program of draft 0.5.0, is part 1 there, and has a layout of its own */
 enum { PROGRAM = 1, MEMORY, EXEC, EXT, PARTS, OLD = PARTS, LAYOUTS };
+
+/* a program has at most so many instructions */
+enum { MOST = 1 << 20 };
 
 struct bytes {
     const uint8_t *at;
@@ -41,6 +44,8 @@ int judge(int count, char **words);
 int count_forms(int count, char **words);
 int report_forms(int count, char **words);
 int translate(int count, char **words);
+int list(int count, char **words);
+int assemble(int count, char **words);
 int label(int count, char **words);
 
 /* tables.c: a subcommand's words, and the tables in the files that they name; 0, or FAILED with the sentence said */
@@ -113,7 +118,7 @@ void print_row(FILE *out, const struct given *given, uint32_t part, size_t row);
 /* answer.c */
 struct answer answer_of(uint32_t verdict, const uint8_t *bytes);
 int status_of(struct answer answer);
-void print_lines(struct answer answer);
+void print_lines(FILE *out, struct answer answer);
 
 /* sentences.c: one line, with its LF */
 void judge_sentence(FILE *out, const struct given *given, struct answer answer);
@@ -124,6 +129,9 @@ void label_sentence(FILE *out, struct bytes text, struct answer answer, const ui
 
 /* edition.c: the same of a translation; where an instruction is refused, its words on a line more */
 void translate_sentence(FILE *out, const struct given *given, struct answer answer);
+
+/* expected.c: the same of a listing that is refused at a place: its line and column, and what is expected there */
+void expected_sentence(FILE *out, struct bytes text, size_t place);
 
 /* lookups.c: how the judge's sentence ends where it is of a lookup: which cell, and which column; else nothing */
 void lookup_sentence(FILE *out, const struct given *given, struct answer answer);

@@ -15,7 +15,7 @@ static int give(struct answer answer, const struct grid *grid)
 {
     if (answer.verdict == UISNABAR_ACCEPTED)
         return replace(&grid->next, (struct bytes){grid->bytes, sizeof grid->bytes}, answer);
-    print_lines(answer);
+    print_lines(stdout, answer);
     leave_next(&grid->next);
     return written();
 }

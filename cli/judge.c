@@ -22,7 +22,7 @@ int judge(int count, char **words)
     if (status)
         return status;
     struct answer answer = ask(&request.given);
-    print_lines(answer);
+    print_lines(stdout, answer);
     if (request.paste)
         print_paste(stdout, &request.given, answer, sums);
     if (written())

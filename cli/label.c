@@ -14,7 +14,7 @@ int label(int count, char **words)
     if (read_text(count == 1 ? words[0] : NULL, text, sizeof text, &len))
         return FAILED;
     struct answer answer = answer_of(uisnabar_label(text, len, bytes, sizeof bytes, recipe, sizeof recipe), bytes);
-    print_lines(answer);
+    print_lines(stdout, answer);
     if (written())
         return FAILED;
     label_sentence(stderr, (struct bytes){text, len}, answer, recipe);

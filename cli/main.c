@@ -17,6 +17,8 @@ static const char help[] =
     "       uisnabar count GRID [--pc N] [--fp N] TABLES\n"
     "       uisnabar report GRID\n"
     "       uisnabar translate OLD NEW\n"
+    "       uisnabar list PROGRAM\n"
+    "       uisnabar assemble LISTING PROGRAM\n"
     "       uisnabar label [FILE]\n"
     "       uisnabar --version | --help\n"
     "\n"
@@ -36,22 +38,30 @@ static const char help[] =
     "        the form of draft 0.6.0, a PROGRAM for judge: from every state the two take the same step, or are stuck alike. NEW\n"
     "        is replaced whole, and only with status 0; it may be OLD. An instruction that is not translatable is printed, with\n"
     "        the reasons.\n"
+    "list    The listing of PROGRAM, an instruction a line, as op=add a=cell:1 b=imm:2 c=fp:3. Where PROGRAM is refused,\n"
+    "        standard output has nothing, and the answer's lines stand on standard error, before the sentence.\n"
+    "assemble\n"
+    "        PROGRAM becomes the program that LISTING stands for, and is replaced whole, and only with status 0. Of a text\n"
+    "        that is no listing the sentence has the line and column at which it leaves every valid one, and what is expected\n"
+    "        there (docs/LISTING.md has the grammar).\n"
     "label   Is the text a label, of version 1 or 2? The sentence has its version, seed, m and n, or what the first line that\n"
     "        does not fit must be. Without FILE it is read from standard input.\n"
     "\n"
-    "Standard output has the answer's six lines, as the replay program prints them, or the report; standard error one\n"
-    "sentence that says what they mean. Where a lookup is refused, expected= is the word that the memory's cell holds and\n"
-    "found= the word that the table's column has, and the sentence names the cell and the column. Both are 0 where a cell\n"
-    "that is looked up is not below M, the number of cells, which the sentence says too; and of every other answer.\n"
-    "Tables and OLD are mapped, not copied: they must not change while they are read. A file that becomes shorter is\n"
-    "noticed.\n"
+    "Standard output has the answer's six lines, as the replay program prints them, or the report, or the listing;\n"
+    "standard error one sentence that says what they mean. Where a lookup is refused, expected= is the word that the\n"
+    "memory's cell holds and found= the word that the table's column has, and the sentence names the cell and the column.\n"
+    "Both are 0 where a cell that is looked up is not below M, the number of cells, which the sentence says too; and of\n"
+    "every other answer.\n"
+    "Tables, OLD, PROGRAM and LISTING are mapped, not copied: they must not change while they are read. A file that\n"
+    "becomes shorter is noticed.\n"
     "Exit status: 0 accepted, 1 refused, 2 usage, or something could not be read or written.\n";
 
 /* the subcommands by name */
 static const struct {
     const char *name;
     int (*run)(int count, char **words);
-} commands[] = {{"judge", judge}, {"count", count_forms}, {"report", report_forms}, {"translate", translate}, {"label", label}};
+} commands[] = {{"judge", judge}, {"count", count_forms}, {"report", report_forms}, {"translate", translate},
+                {"list", list},   {"assemble", assemble}, {"label", label}};
 enum { COMMANDS = sizeof commands / sizeof commands[0] };
 
 int failed(const char *format, ...)

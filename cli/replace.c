@@ -1,7 +1,7 @@
-/* A file that is replaced whole, or stays as it was: a grid, or a translated program.
+/* A file that is replaced whole, or stays as it was: a grid, or a program that was translated or assembled.
  *
- * What is to replace it stands beside it as .NAME.counting or .NAME.translating, and is renamed at the end. It is the
- * lock too, so that nothing stays behind: renamed or removed by the one that holds it, it sets those free that wait,
+ * What is to replace it stands beside it as .NAME.counting, .translating or .assembling, and is renamed at the end. It is
+ * the lock too, so that nothing stays behind: renamed or removed by the one that holds it, it sets those free that wait,
  * and they begin anew. One that a killed command left is taken over by the next. */
 #define _GNU_SOURCE
 #include <errno.h>
@@ -100,7 +100,7 @@ int replace(const struct next *next, struct bytes bytes, struct answer answer)
 {
     int status = prepare(next, bytes);
     if (status == 0) {
-        print_lines(answer);
+        print_lines(stdout, answer);
         status = written();
     }
     if (status == 0 && rename(next->name, next->path) == 0)

@@ -3,8 +3,6 @@
 
 #include "cli.h"
 
-enum { MOST = 1 << 20 };
-
 /* the bytes that OLD becomes; where it is longer than a program may be, the library refuses it whatever the room is */
 static size_t room_for(const struct given *given)
 {
@@ -24,7 +22,7 @@ static int give(struct answer answer, const char *path, struct bytes program)
     struct next next = {.path = path, .what = "program", .doing = "translating"};
     if (answer.verdict == UISNABAR_ACCEPTED)
         return take_next(&next) ? FAILED : replace(&next, program, answer);
-    print_lines(answer);
+    print_lines(stdout, answer);
     return written();
 }
 
