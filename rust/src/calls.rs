@@ -49,6 +49,26 @@ extern "C" {
         answer: *mut u8,
         answer_len: usize,
     ) -> u32;
+    pub fn uisnabar_list(
+        program: *const u8,
+        program_len: usize,
+        text: *mut u8,
+        text_len: usize,
+        written: *mut u8,
+        written_len: usize,
+        answer: *mut u8,
+        answer_len: usize,
+    ) -> u32;
+    pub fn uisnabar_read_listing(
+        text: *const u8,
+        text_len: usize,
+        program: *mut u8,
+        program_len: usize,
+        written: *mut u8,
+        written_len: usize,
+        answer: *mut u8,
+        answer_len: usize,
+    ) -> u32;
     pub fn uisnabar_label(
         text: *const u8,
         text_len: usize,

@@ -1,5 +1,5 @@
-//! The proved judge of leanVM tables, counts of the instruction forms that they reach, programs from draft 0.5.0, and
-//! the reader of labels, from libuisnabar.a, without `unsafe` for the caller.
+//! The proved judge of leanVM tables, counts of the instruction forms that they reach, programs from draft 0.5.0,
+//! listings of programs, and the reader of labels, from libuisnabar.a, without `unsafe` for the caller.
 //!
 //! include/uisnabar.h documents each function, docs/VERDICTS.md every answer. A call of the library keeps nothing, uses
 //! no heap and at most [`STACK_BYTES`] of stack, [`count`] at most [`COUNT_STACK_BYTES`], and may be made from several
@@ -12,16 +12,20 @@
 //! assert_eq!(uisnabar::count(&[], &[], 0, 0, &[], &[], &mut grid), Err(refusal));
 //! assert_eq!(uisnabar::report(&grid).unwrap(), "");
 //! assert_eq!(uisnabar::translate(&[0; 56]).unwrap_err().name(), "EDITION");
+//! let program = uisnabar::read_listing(b"op=jump a=imm:1 b=imm:0 c=fp:0\n").unwrap();
+//! assert_eq!(uisnabar::list(&program).unwrap(), "op=jump a=imm:1 b=imm:0 c=fp:0\n");
 //! let recipe = uisnabar::read_label(b"v=2\nseed=000000012fffffff\nm=10\nn=12\n").unwrap();
 //! assert_eq!((recipe.version, recipe.seed, recipe.m, recipe.n), (2, 0x1_2fff_ffff, 10, 12));
 //! ```
 
 mod calls;
+mod listings;
 
 use std::error::Error;
 use std::fmt;
 
 use calls::{uisnabar_count, uisnabar_judge, uisnabar_label, uisnabar_report, uisnabar_translate};
+pub use listings::{list, read_listing};
 
 /// The version of the library that this crate is written for, `UISNABAR_VERSION`.
 pub const VERSION: &str = env!("CARGO_PKG_VERSION");
@@ -33,6 +37,8 @@ pub const COUNT_STACK_BYTES: usize = 25600;
 pub const GRID_BYTES: usize = 1080;
 /// No report is longer than this.
 pub const REPORT_BYTES: usize = 5076;
+/// No line of a listing is longer than this, its LF too.
+pub const LINE_BYTES: usize = 77;
 
 const ANSWER_BYTES: usize = 24;
 const RECIPE_BYTES: usize = 20;
@@ -43,7 +49,7 @@ const INSTRUCTION: usize = 48;
 const MOST_INSTRUCTIONS: usize = 1 << 20;
 
 /// The verdicts by number.
-pub const NAMES: [&str; 16] = [
+pub const NAMES: [&str; 18] = [
     "ACCEPTED",
     "SIZE",
     "WORD",
@@ -60,11 +66,13 @@ pub const NAMES: [&str; 16] = [
     "ANSWER",
     "GRID",
     "EDITION",
+    "LISTING",
+    "SHORT",
 ];
 const ACCEPTED: u32 = 0;
 const ANSWER: u32 = 13;
 
-/// Why tables, a program or a label were refused: the six numbers of docs/VERDICTS.md. The verdict is never 0.
+/// Why tables, a program, a listing or a label were refused: the six numbers of docs/VERDICTS.md. The verdict is never 0.
 #[derive(Clone, Copy, Debug, PartialEq, Eq, Hash)]
 pub struct Refusal {
     pub verdict: u32,
