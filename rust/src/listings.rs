@@ -7,7 +7,7 @@ use crate::{number, outcome, Refusal, ANSWER_BYTES, INSTRUCTION, LINE_BYTES, MOS
 macro_rules! written {
     ($call:ident($from:ident), $room:expr) => {{
         let (mut answer, mut written, mut to) = ([0; ANSWER_BYTES], [0; WRITTEN_BYTES], vec![0; $room]);
-        // SAFETY: each pointer comes with its slice's length, and the three buffers that are written are this call's own.
+        // SAFETY: each pointer comes with its slice's length, and the three buffers that are written are its own.
         let verdict = unsafe {
             $call(
                 $from.as_ptr(),
@@ -26,8 +26,8 @@ macro_rules! written {
     }};
 }
 
-/// A program's listing, an instruction a line, as `op=add a=cell:1 b=imm:2 c=fp:3`; [`read_listing`] reads it back. SIZE,
-/// WORD or INSTRUCTION, of part 1, as [`judge`](crate::judge) has them.
+/// A program's listing, an instruction a line, as `op=add a=cell:1 b=imm:2 c=fp:3`; [`read_listing`] reads it back.
+/// SIZE, WORD or INSTRUCTION, of part 1, as [`judge`](crate::judge) has them.
 pub fn list(program: &[u8]) -> Result<String, Refusal> {
     // no length of `program` that is refused asks for more than the longest listing
     let instructions = (program.len() / INSTRUCTION).min(MOST_INSTRUCTIONS);
@@ -35,8 +35,8 @@ pub fn list(program: &[u8]) -> Result<String, Refusal> {
     Ok(String::from_utf8_lossy(&text).into_owned())
 }
 
-/// The program that a listing stands for, which [`judge`](crate::judge) takes; or LISTING and how long a prefix the text
-/// shares with a valid one.
+/// The program that a listing stands for, which [`judge`](crate::judge) takes; or LISTING and how long a prefix the
+/// text shares with a valid one.
 pub fn read_listing(text: &[u8]) -> Result<Vec<u8>, Refusal> {
     // a text with more lines than a program may have instructions is refused, whatever the room is
     let lines = text.iter().filter(|byte| **byte == b'\n').count().min(MOST_INSTRUCTIONS);

@@ -170,6 +170,7 @@ int main(void)
         printf("verdict %u %s\n", (unsigned)verdict, uisnabar_name(verdict));
     printf("answer %d\nrecipe %d\ngrid %d\nwritten %d\nreport %d\n", UISNABAR_ANSWER_BYTES, UISNABAR_RECIPE_BYTES, UISNABAR_GRID_BYTES,
            UISNABAR_WRITTEN_BYTES, UISNABAR_REPORT_BYTES);
+    printf("line %d\n", UISNABAR_LINE_BYTES);
     printf("stack %d\ncount_stack %d\nversion %s\n", UISNABAR_STACK_BYTES, UISNABAR_COUNT_STACK_BYTES, UISNABAR_VERSION);
     return 0;
 }

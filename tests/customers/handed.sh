@@ -49,7 +49,7 @@ figures() {
         equal "$file, answer" "$(rust_figure "$file" ANSWER_BYTES)" "$(figure answer)"
         equal "$file, recipe" "$(rust_figure "$file" RECIPE_BYTES)" "$(figure recipe)"
     done
-    for name in stack count_stack grid written report; do
+    for name in stack count_stack grid written report line; do
         equal "rust/src/lib.rs, $name" "$(rust_figure rust/src/lib.rs "${name^^}_BYTES")" "$(figure "$name")"
     done
     name=$(sed -n '/^pub const NAMES/,/^];/p' rust/src/lib.rs | grep -o '"[A-Z]*"' | tr -d '"' | tr '\n' ' ')
@@ -122,6 +122,14 @@ lookups() {
     said_file <(echo "$told")
 }
 
+# what a driver reads of a listing, and hands in; the longest line is the header's
+listings() {
+    compile "$work/listings-program" -Iinclude tests/customers/listings.c target/staticlib/libuisnabar.a ||
+        fault "tests/customers/listings.c cannot be compiled"
+    gives 0 emulated "$work/listings-program"
+    said ' tried, 0 faults'
+}
+
 # no exported function uses more stack than the header says
 stack_figure() {
     local name bytes limit
@@ -169,8 +177,24 @@ translates() {
     cmp -s "$work/new" "$work/wanted" || fault "a refused program changed what was written: $1"
 }
 
+# lists PREFIX: the command there assembles a listing and lists it, and a refused one leaves what was written
+lists() {
+    local line='op=mul a=cell:1 b=imm:2 c=fp:3'
+    echo "$line" >"$work/listing"
+    small 1 2 3 0 1 0 1 0 1 0 0 0 >"$work/wanted"
+    gives 0 emulated "$1/bin/uisnabar" assemble "$work/listing" "$work/assembled"
+    cmp -s "$work/assembled" "$work/wanted" || fault "another program: $1"
+    gives 0 emulated "$1/bin/uisnabar" list "$work/assembled"
+    said_file "$work/listing"
+    printf '%s\r\n' "$line" >"$work/listing"
+    gives 1 emulated "$1/bin/uisnabar" assemble "$work/listing" "$work/assembled"
+    said_file <(printf '%s\n' verdict=16 part=0 place=30 rule=0 expected=0 found=0)
+    complained 'LISTING: line 1, column 31: LF, or a digit with which the number does not pass 2130706432, is expected here, not CR'
+    cmp -s "$work/assembled" "$work/wanted" || fault "a refused listing changed what was written: $1"
+}
+
 # holds_tree PREFIX: a driver compiled by pkg-config judges; the programs answer the shelf, and the command counts its
-# forms, says what was found, translates and reads labels; all as in the repository
+# forms, says what was found, translates, lists and reads labels; all as in the repository
 holds_tree() {
     local doc=$1/share/doc/uisnabar shelf=$1/share/uisnabar/shelf flags label
     flags=$(PKG_CONFIG_PATH=$1/lib/pkgconfig pkg-config --cflags --libs uisnabar) || fault "pkg-config knows no uisnabar"
@@ -190,8 +214,9 @@ holds_tree() {
     said_file "$work/report"
     finds "$1"
     translates "$1"
+    lists "$1"
     reads "$1"
-    for label in VERDICTS.md CHANGELOG.md driver.rs; do
+    for label in VERDICTS.md LISTING.md CHANGELOG.md driver.rs; do
         [ -s "$doc/$label" ] || fault "$doc has no $label"
     done
     diff -r shelf "$shelf" >/dev/null || fault "$shelf is not the shelf"
