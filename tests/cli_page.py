@@ -3,7 +3,7 @@
 Rule numbers and order, and the columns that a rule reads, are those of crates/rules/specs; the draft's formulas,
 evaluated on drawn words, are the polynomials of tests/oracle.py; the plain words are cli/sentences.c's, a label's lines
 too, the layouts cli/layout.c's; its forms are those that the second implementation finds possible; every definition and
-theorem named there and in docs/DISPUTE.md is in the file named."""
+theorem named there, in docs/DISPUTE.md and in docs/LISTING.md is in the file named."""
 import itertools
 import pathlib
 import re
@@ -217,7 +217,7 @@ def forms():
 
 def named_definitions():
     """Each definition and theorem that the pages name is in the file before it, or in specs/Given of the same crate."""
-    text = PAGE + (ROOT / "docs/DISPUTE.md").read_text()
+    text = PAGE + "".join((ROOT / page).read_text() for page in ("docs/DISPUTE.md", "docs/LISTING.md"))
     names = r" ((?:`[^`]+`(?:,\s)?)+)"
     found = re.findall(r"(crates/\S+\.antt)" + names, text)
     for crate, file, named in re.findall(r"`(\w+)`,\s((?:specs|proofs)/\w+)" + names, text):

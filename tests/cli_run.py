@@ -1,4 +1,4 @@
-"""The command `uisnabar`, as tests/cli.py, tests/cli_forms.py and tests/cli_translate.py run it, and what was found."""
+"""The command `uisnabar`, as tests/cli.py and the tests/cli_*.py that it calls run it, and what was found."""
 import os
 import pathlib
 import re

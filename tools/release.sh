@@ -18,7 +18,7 @@ libdir=\${prefix}/lib
 includedir=\${prefix}/include
 
 Name: uisnabar
-Description: The proved judge of leanVM tables, form counts, programs of draft 0.5.0, and the label reader (x86-64)
+Description: The proved judge of leanVM tables, form counts, programs of draft 0.5.0, listings, label reader (x86-64)
 Version: $(version)
 Cflags: -I\${includedir}
 Libs: -L\${libdir} -luisnabar
@@ -49,7 +49,7 @@ lay_out() {
         install -d "$1/lib/pkgconfig" "$1/bin" && pkg_config >"$1/lib/pkgconfig/uisnabar.pc" &&
         install -m 755 target/bin/replay "$1/bin/uisnabar-replay" &&
         install -m 755 target/bin/table "$1/bin/uisnabar-table" &&
-        lay 644 CHANGELOG.md docs/VERDICTS.md examples/driver.c examples/driver.rs "$doc" &&
+        lay 644 CHANGELOG.md docs/VERDICTS.md docs/LISTING.md examples/driver.c examples/driver.rs "$doc" &&
         lay 644 rust/Cargo.toml rust/Cargo.lock rust/build.rs "$share/rust" &&
         lay 644 rust/src/*.rs "$share/rust/src" &&
         lay 644 rust/tests/*.rs "$share/rust/tests" &&
