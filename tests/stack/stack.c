@@ -10,12 +10,14 @@
 #include "../differ/library.h"
 #include "../speed/inputs.h"
 
-enum { ROOM = 256 << 10, PAINT = 0xa5, GROUP = 4 * 120 };
+enum { ROOM = 256 << 10, PAINT = 0xa5, GROUP = 4 * 120, LISTED = 1 << 10 };
 
 static uint8_t *stack;
 static speed_input in, old;
 static uint8_t answer[UISNABAR_ANSWER_BYTES], recipe[UISNABAR_RECIPE_BYTES], text[64], grid[UISNABAR_GRID_BYTES];
 static uint8_t report_text[UISNABAR_REPORT_BYTES], written[UISNABAR_WRITTEN_BYTES];
+static uint8_t listing[UISNABAR_LINE_BYTES * LISTED], listed[48 * LISTED]; /* a program of so many instructions */
+static size_t listing_len;
 static int above; /* a call that is exported used more than the header says */
 
 static void *nothing(void *ext)
@@ -45,6 +47,18 @@ static void *report(void *room)
 static void *translate(void *len)
 {
     uisnabar_translate(old.old, *(size_t *)len, old.program, old.program_len, answer, sizeof answer);
+    return NULL;
+}
+
+static void *list(void *room)
+{
+    uisnabar_list(listed, sizeof listed, listing, *(size_t *)room, written, sizeof written, answer, sizeof answer);
+    return NULL;
+}
+
+static void *read_listing(void *room)
+{
+    uisnabar_read_listing(listing, listing_len, listed, *(size_t *)room, written, sizeof written, answer, sizeof answer);
     return NULL;
 }
 
@@ -167,6 +181,34 @@ static size_t of_translate(void)
     return most(used, touched(translate, &cut));
 }
 
+/* A listing, SHORT, then INSTRUCTION and WORD at the last word. */
+static size_t of_list(void)
+{
+    size_t whole = sizeof listing, none = 0;
+    size_t used = most(touched(list, &whole), touched(list, &none));
+    uint8_t *last = listed + sizeof listed - 4, kept[4];
+    memcpy(kept, last, sizeof kept);
+    last[0] |= 1;
+    used = most(used, touched(list, &whole));
+    last[3] = 0xff;
+    used = most(used, touched(list, &whole));
+    memcpy(last, kept, sizeof kept);
+    return used;
+}
+
+/* The listing of the same program read back, SHORT, then LISTING at the text's end and at its last byte. */
+static size_t of_read_listing(void)
+{
+    size_t whole = sizeof listed, none = 0;
+    list(&(size_t){sizeof listing});
+    listing_len = (size_t)written[0] | (size_t)written[1] << 8 | (size_t)written[2] << 16;
+    size_t used = most(touched(read_listing, &whole), touched(read_listing, &none));
+    listing[listing_len - 1] = '\r';
+    used = most(used, touched(read_listing, &whole));
+    listing_len--;
+    return most(used, touched(read_listing, &whole));
+}
+
 static void line(const char *name, size_t used, size_t start)
 {
     printf("%s: %zu bytes of stack\n", name, used - start);
@@ -189,12 +231,15 @@ int main(void)
         return 2;
     in = speed_build(15, 13, 17, 1);
     old = speed_old(12);
+    memcpy(listed, in.program, sizeof listed);
     size_t start = touched(nothing, NULL);
     line("tabler", touched(tabler, NULL), start);
     exported("uisnabar_judge", over_tables(judge), start, UISNABAR_STACK_BYTES);
     exported("uisnabar_count", of_count(), start, UISNABAR_COUNT_STACK_BYTES);
     exported("uisnabar_report", of_report(), start, UISNABAR_STACK_BYTES);
     exported("uisnabar_translate", of_translate(), start, UISNABAR_STACK_BYTES);
+    exported("uisnabar_list", of_list(), start, UISNABAR_STACK_BYTES);
+    exported("uisnabar_read_listing", of_read_listing(), start, UISNABAR_STACK_BYTES);
     exported("uisnabar_label", over_versions(label), start, UISNABAR_STACK_BYTES);
     line("label writer", over_versions(writer), start);
     line("maker", over_versions(maker), start);
