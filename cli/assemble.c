@@ -8,11 +8,11 @@ struct assembled {
     size_t room, len;
 };
 
-/* 48 bytes for each LF, so that no listing is SHORT; one of more lines than a program may have is refused before */
+/* 48 bytes for each LF, so that no listing is SHORT; of a text that is longer than any listing the rest is not read */
 static size_t room_for(struct bytes text)
 {
-    size_t lines = 0;
-    for (size_t at = 0; at < text.len && lines < MOST; at++)
+    size_t lines = 0, most = (size_t)UISNABAR_LINE_BYTES * MOST;
+    for (size_t at = 0; at < text.len && at < most && lines < MOST; at++)
         lines += text.at[at] == '\n';
     return 4 * layouts[PROGRAM].words * lines;
 }

@@ -107,6 +107,12 @@ def sentences():
     long = f"{LONGEST}\n".encode() * MOST
     for more in (b"o", b"\n"):
         unlisted(f"2^20 lines and {more[:9]!r}", long + more, len(long), most)
+    put(b"\n" * 4 * MOST)
+    check("lines of nothing", run("assemble", "listing", "assembled", **memory(2**26))[:2], (1, shelf.six_lines(six(16))))
+    put(TEXT, HELD)
+    os.truncate(LISTING, 2**33)
+    said = f"LISTING: line {len(GOOD) + 1}, column 1: op= is expected here, not 0x00\n"
+    check("a text of 2^33 bytes", (run("assemble", "listing", "assembled"), left()), ((1, shelf.six_lines(six(16, 0, len(TEXT))), said), (HELD, False)))
 
 
 def everywhere():
