@@ -1,8 +1,8 @@
 /* A file that is replaced whole, or stays as it was: a grid, or a program that was translated or assembled.
  *
- * What is to replace it stands beside it as .NAME.counting, .translating or .assembling, and is renamed at the end. It is
- * the lock too, so that nothing stays behind: renamed or removed by the one that holds it, it sets those free that wait,
- * and they begin anew. One that a killed command left is taken over by the next. */
+ * What is to replace it stands beside it as .NAME.counting, .translating or .assembling, and is renamed at the end. It
+ * is the lock too, so that nothing stays behind: renamed or removed by the one that holds it, it sets those free that
+ * wait, and they begin anew. One that a killed command left is taken over by the next. */
 #define _GNU_SOURCE
 #include <errno.h>
 #include <fcntl.h>
