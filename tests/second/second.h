@@ -1,6 +1,7 @@
 /* A second judge, counter of instruction forms, tabler, translator of programs
- * of draft 0.5.0, maker and label reader and writer for leanVM test tables,
- * written from the documents alone (see README.md).
+ * of draft 0.5.0, reader and writer of listings, maker and label reader and
+ * writer for leanVM test tables, written from the documents alone (see
+ * README.md).
  *
  * No function here keeps state, so all may be called from several threads.
  * A pointer may be NULL where its length is 0.  Buffers must not overlap. */
@@ -94,6 +95,22 @@ typedef struct {
 uint32_t second_old_step(const uint8_t *old, size_t old_len,
                          const uint8_t *memory, size_t memory_len,
                          second_state *s);
+
+/* Writes a program's listing, a line for each instruction, and its length.  On
+ * refusal no byte of text changes and *written is 0: SHORT, with the bytes
+ * needed as place, comes after SIZE, WORD and INSTRUCTION.  Bytes of text after
+ * the listing keep what they held. */
+second_answer second_list(const uint8_t *program, size_t program_len,
+                          uint8_t *text, size_t text_len, uint64_t *written);
+
+/* Reads a listing into a program, whose room may be of any length, and gives
+ * the bytes written.  On refusal no byte of program changes and *written is 0:
+ * LISTING, with the longest prefix that the text shares with any listing as
+ * place, then SHORT.  Bytes of program after the last instruction keep what
+ * they held. */
+second_answer second_read_listing(const uint8_t *text, size_t text_len,
+                                  uint8_t *program, size_t program_len,
+                                  uint64_t *written);
 
 /* Fills program (48 * (n + 1) bytes) and memory (4 * 2^m bytes) from a
  * recipe; a refusal changes no byte. */
