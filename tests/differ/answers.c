@@ -1,9 +1,10 @@
 /* Each function with answer buffers of other lengths, where all else would be
  * accepted; among them the 16 bytes of the four numbers that there were once. */
+#include "listings.h"
 #include "olds.h"
 #include "tries.h"
 
-enum { TEXT = 37, ROWS = 256, WRITTEN_BYTES = 8 };
+enum { TEXT = 37, ROWS = 256 };
 
 static const second_recipe recipe = { 1, 10, 1, 2 };
 static uint8_t parts[PARTS][4 * EXT_WORDS * ROWS];
@@ -62,6 +63,24 @@ static attempt on_old(void)
     return t;
 }
 
+/* One instruction to the lister, or its line to the reader. */
+static attempt on_listing(enum function f)
+{
+    static uint8_t program[4 * FORM_WORDS], its_line[LONGEST_LINE + 1];
+    attempt t = { .function = f };
+    listed one = { .op = L_XPEQ, .n = 1 };
+    store_listed(&one, program);
+    size_t length = print_line(&one, its_line, NULL);
+    t.lent[0] = (buffer){ program, sizeof program, false };
+    t.lent[1].len = length;
+    if (f == LIST_READER) {
+        t.lent[0] = (buffer){ its_line, length, false };
+        t.lent[1].len = sizeof program;
+    }
+    t.lent[2].len = WRITTEN_BYTES;
+    return t;
+}
+
 static attempt accepted(differ *d, enum function f)
 {
     switch (f) {
@@ -73,6 +92,9 @@ static attempt accepted(differ *d, enum function f)
         return on_report();
     case TRANSLATE:
         return on_old();
+    case LISTER:
+    case LIST_READER:
+        return on_listing(f);
     default:
         return on_recipe(f);
     }

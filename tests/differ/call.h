@@ -7,7 +7,7 @@
 #include "tally.h"
 
 enum { SLOTS = 6, FULL_DIFFERENCES = 10, NUMBERS = 6, ANSWER_BYTES = 4 * NUMBERS,
-       RECIPE_BYTES = 20 };
+       RECIPE_BYTES = 20, WRITTEN_BYTES = 8 };
 
 /* A buffer at entry; bytes NULL stands for random bytes. */
 typedef struct {
@@ -47,8 +47,8 @@ bool differ_open(differ *d, uint64_t seed, bool paged);
 void note(differ *d, const char *format, ...);
 void note_back(differ *d, size_t len);
 
-/* More calls are asked for.  Counts, reports, translations and what is tabled
- * of these come beside, so that they take the place of no other. */
+/* More calls are asked for.  Counts, reports, translations with what is tabled
+ * of these, and listings come beside, so that they take the place of no other. */
 static inline bool more_calls(const differ *d)
 {
     return d->calls - d->extra < d->limit;
@@ -59,6 +59,10 @@ int answer_slot(enum function f);
 
 /* The answer's bytes. */
 void store_answer(uint8_t to[ANSWER_BYTES], second_answer a);
+
+/* wanted.c: what the caller must be told, with all mirrors as the buffers must
+ * end.  ANSWER is the C call's own, so the second knows nothing of it. */
+second_answer wanted(const attempt *t, const slot *s, uint32_t *returned);
 
 /* Calls both, compares everything, counts what was reached; gives the second's
  * answer.  The slots then hold what the library left. */

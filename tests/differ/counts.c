@@ -9,7 +9,7 @@
 #include "library.h"
 
 enum { GRID_SLOT = PARTS, COUNT_ANSWER };
-enum { R_GRID, R_TEXT, R_WRITTEN, R_ANSWER, WRITTEN_BYTES = 8 };
+enum { R_GRID, R_TEXT, R_WRITTEN, R_ANSWER };
 enum { LONGEST = 5076 }; /* 135 lines of twenty digits each */
 
 _Static_assert(UISNABAR_REPORT_BYTES == LONGEST, "the header's longest report");

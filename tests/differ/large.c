@@ -108,5 +108,6 @@ bool try_large(void)
     good &= try_size(19);
     good &= try_dense(14, 14);
     good &= try_dense(16, 14);
-    return try_large_olds() && good;
+    good &= try_large_olds();
+    return try_large_listings() && good;
 }

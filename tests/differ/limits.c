@@ -3,6 +3,7 @@
  * only a large program is read, and that takes a moment.  An old program is
  * read whole: its zeros are words, and only its first instruction is refused. */
 #define _DEFAULT_SOURCE
+#include "listings.h"
 #include "olds.h"
 #include "tries.h"
 
@@ -43,6 +44,19 @@ static void try_old_limit(differ *d, size_t count, uint8_t *zeros)
     compare(d, &t);
 }
 
+/* Zeros are no instruction, and no byte of a listing is one. */
+static void try_list_limit(differ *d, enum function f, size_t len, uint8_t *zeros)
+{
+    attempt t = { .function = f };
+    t.lent[0] = (buffer){ zeros, len, true };
+    t.lent[1] = (buffer){ zeros, len, true };
+    t.lent[2].len = WRITTEN_BYTES;
+    t.lent[3].len = ANSWER_BYTES;
+    note_back(d, 0);
+    note(d, "%zu bytes of zeros to the %s", len, function_names[f]);
+    compare(d, &t);
+}
+
 /* A write to these bytes faults, so nothing has to be compared. */
 void try_limits(differ *d)
 {
@@ -61,5 +75,8 @@ void try_limits(differ *d)
     }
     try_old_limit(d, most[PROGRAM], zeros);
     try_old_limit(d, most[PROGRAM] + 1, zeros);
+    try_list_limit(d, LISTER, unit_of(PROGRAM) * most[PROGRAM], zeros);
+    try_list_limit(d, LISTER, unit_of(PROGRAM) * (most[PROGRAM] + 1), zeros);
+    try_list_limit(d, LIST_READER, bytes, zeros);
     munmap(zeros, bytes);
 }

@@ -1,12 +1,14 @@
 /* Compares the library with the second implementation, call by call.
  *
  *   differ SEED CALLS             stops after that many calls, counts, reports,
- *                                 translations and the lists of versions.c,
- *                                 lookups.c and answers.c not among them
+ *                                 translations, listings and the lists of
+ *                                 versions.c, lookups.c and answers.c not among
+ *                                 them
  *   differ SEED 0 SECONDS         stops after that long
  *   differ --page SEED CALLS      buffers at pages that fault, small stack
  *   differ --large                a few tables of 16,383 and of 32,767 groups,
- *                                 and old programs of 2^20 instructions
+ *                                 and old programs and listings of 2^20
+ *                                 instructions
  *
  * Ends with 0 if there is no difference and everything listed in tally.c was
  * reached, 1 if not, 2 if it could not run. */
@@ -39,8 +41,8 @@ static double seconds_now(void)
     return (double)t.tv_sec + (double)t.tv_nsec / 1e9;
 }
 
-/* A world, then labels, recipes, a report and old programs; all forms now and
- * then. */
+/* A world, then labels, recipes, a report, old programs and listings; all forms
+ * now and then. */
 static void one_turn(differ *d, uint32_t turn)
 {
     if (turn % 16 == 0)
@@ -56,6 +58,8 @@ static void one_turn(differ *d, uint32_t turn)
     for (int i = 0; i < 4; i++)
         try_translation(d);
     try_old_runs(d);
+    for (int i = 0; i < 8; i++)
+        try_listing(d);
 }
 
 /* Until calls or seconds are used up. */
@@ -64,6 +68,7 @@ static void run(differ *d, uint64_t seconds)
     double from = seconds_now();
     try_limits(d);
     try_every_old(d);
+    try_listing_sweeps(d);
     try_versions(d);
     try_lookups(d);
     try_answers(d);
@@ -106,7 +111,7 @@ int main(int argc, char **argv)
     end_campaign(&all);
     bool complete = tally_report(&all.reached);
     printf("calls: %" PRIu64 ", and %" PRIu64 " of counts, reports, "
-           "translations and lists\ndifferences: %" PRIu64 "\n",
+           "translations, listings and lists\ndifferences: %" PRIu64 "\n",
            all.calls - all.extra, all.extra, all.differences);
     return complete && all.differences == 0 ? 0 : 1;
 }

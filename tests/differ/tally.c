@@ -5,13 +5,13 @@
 
 const char *const function_names[FUNCTIONS] = {
     "judge", "label reader", "tabler", "maker", "label writer", "count",
-    "report", "translation"
+    "report", "translation", "lister", "listing reader"
 };
 
 static const char *const verdict_names[VERDICTS] = {
     "ACCEPTED", "SIZE", "WORD", "INSTRUCTION", "START", "EXEC", "EXTENSION",
     "BUS", "LABEL", "STUCK", "ROOM", "OPEN", "SELF", "ANSWER", "GRID",
-    "EDITION"
+    "EDITION", "LISTING", "SHORT"
 };
 
 const size_t answer_lengths[ANSWER_LENGTHS] = { 0, 16, 20, 23, 25, 48 };
@@ -56,6 +56,10 @@ static const bool expected[FUNCTIONS][VERDICTS] = {
     [REPORT] = { [ACCEPTED] = true, [SIZE] = true, [ANSWER] = true },
     [TRANSLATE] = { [ACCEPTED] = true, [SIZE] = true, [WORD] = true,
                     [ANSWER] = true, [EDITION] = true },
+    [LISTER] = { [ACCEPTED] = true, [SIZE] = true, [WORD] = true,
+                 [INSTRUCTION] = true, [ANSWER] = true, [SHORT] = true },
+    [LIST_READER] = { [ACCEPTED] = true, [ANSWER] = true, [LISTING] = true,
+                      [SHORT] = true },
 };
 
 /* A number outside its table is a difference's business, not the tally's. */
@@ -97,7 +101,7 @@ typedef struct {
     uint32_t first, last; /* each from first to last must be reached */
 } line;
 
-enum { LINES = 17 };
+enum { LINES = 19 };
 
 static void lines_of(const tally *t, line out[LINES])
 {
@@ -119,6 +123,8 @@ static void lines_of(const tally *t, line out[LINES])
         { "report's SIZE part", t->size[REPORT], LAST_SIZE_PART, LAST_SIZE_PART },
         { "translation's SIZE part", t->size[TRANSLATE], 1, 1 },
         { "translation's WORD part", t->word[TRANSLATE], 1, 1 },
+        { "lister's SIZE part", t->size[LISTER], 1, 1 },
+        { "lister's WORD part", t->word[LISTER], 1, 1 },
     };
     for (int i = 0; i < LINES; i++)
         out[i] = all[i];
@@ -204,5 +210,6 @@ bool tally_report(const tally *t)
     complete = forms_report(t->forms) && complete;
     complete = lookup_report(&t->lookups) && complete;
     complete = version_report(&t->versions) && complete;
+    complete = listing_report(&t->listings) && complete;
     return old_report(&t->olds) && complete;
 }

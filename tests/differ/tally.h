@@ -5,16 +5,18 @@
 #include <stdbool.h>
 
 #include "../second/second.h"
+#include "listing_tally.h"
 #include "lookup_tally.h"
 #include "old_tally.h"
 #include "version_tally.h"
 
 enum function { JUDGE, LABEL_READER, TABLER, MAKER, LABEL_WRITER, COUNT, REPORT,
-                TRANSLATE, FUNCTIONS };
+                TRANSLATE, LISTER, LIST_READER, FUNCTIONS };
 
 /* The documents' verdicts. */
 enum { ACCEPTED, SIZE, WORD, INSTRUCTION, START, EXEC, EXTENSION, BUS, LABEL,
-       STUCK, ROOM, OPEN, SELF, ANSWER, GRID, EDITION, VERDICTS };
+       STUCK, ROOM, OPEN, SELF, ANSWER, GRID, EDITION, LISTING, SHORT,
+       VERDICTS };
 
 enum { LAST_EXEC_RULE = 16, LAST_EXT_RULE = 21, LAST_STUCK_RULE = 8,
        LAST_SIZE_PART = 5, LAST_PART = 4 };
@@ -43,6 +45,7 @@ typedef struct {
     old_tally olds;
     version_tally versions;
     lookup_tally lookups;
+    listing_tally listings;
 } tally;
 
 extern const char *const function_names[FUNCTIONS];

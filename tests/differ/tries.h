@@ -42,11 +42,20 @@ void try_every_old(differ *d);
 bool old_runs_open(void);
 void try_old_runs(differ *d);
 
+/* listing_tries.c: a program to the lister or a text to its reader, as it is,
+ * spoilt or damaged; listing_sweeps.c: once every cut, byte, mode, room and
+ * instruction. */
+void try_listing(differ *d);
+void try_listing_sweeps(differ *d);
+
 /* large.c: tables of many groups; false where the two differ. */
 bool try_large(void);
 
 /* large_old.c: old programs of as many instructions as there may be. */
 bool try_large_olds(void);
+
+/* large_listing.c: listings of as many lines as there may be. */
+bool try_large_listings(void);
 
 /* limits.c: lengths at the largest of each part and just above. */
 void try_limits(differ *d);
