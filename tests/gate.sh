@@ -120,6 +120,11 @@ editions() {
     against editions && python3 tests/editions.py cases | emulated target/c/editions | python3 tests/editions.py compare
 }
 
+# listings: lines, texts and programs by hand and by the Python implementation, through the library
+listings() {
+    against listings && python3 tests/listings.py cases | emulated target/c/listings | python3 tests/listings.py compare
+}
+
 page_checks() {
     stage "layout, contracts, pages"
     check "layout (rt fmt --check)" rt fmt --check
@@ -157,6 +162,7 @@ run_checks() {
     check "what customers hold" ./bench customers
     check "the command uisnabar, on every verdict and rule" cli_test
     check "programs of draft 0.5.0: words, refusals and runs as written by hand" editions
+    check "listings: by hand, of the shelf and of every form, every cut and every change of a byte" listings
     check "library and second implementation agree" differ 1 40000
     check "the same at the end of a page, on a small stack" differ --page 2 4000
     check "the same on large tables, in rounds and windows, accepted and refused" differ --large

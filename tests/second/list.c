@@ -4,8 +4,10 @@
 #include "list.h"
 
 /* The name of each op, and of each mode, with what stands before it. */
+enum { LONGEST_PIECE = 8, LONGEST_LINE = 77 };
+
 typedef struct {
-    char text[11];
+    char text[LONGEST_PIECE];
     uint8_t len;
 } piece;
 
@@ -26,9 +28,11 @@ static const piece lengths[] = { { " be=0 n=", 8 }, { " be=1 n=", 8 } };
 
 static uint32_t digits_of(uint32_t number)
 {
+    static const uint32_t powers[] = { 10, 100, 1000, 10000, 100000, 1000000,
+                                       10000000, 100000000, 1000000000 };
     uint32_t digits = 1;
-    for (uint64_t power = 10; number >= power; power *= 10)
-        digits++;
+    for (uint32_t k = 0; k < 9; k++) /* no branch for each */
+        digits += number >= powers[k];
     return digits;
 }
 
@@ -74,9 +78,10 @@ static size_t length_of(const line *l)
     return length;
 }
 
+/* There is room for a piece of any length. */
 static uint8_t *put_piece(uint8_t *to, const piece *p)
 {
-    memcpy(to, p->text, p->len);
+    memcpy(to, p->text, LONGEST_PIECE);
     return to + p->len;
 }
 
@@ -90,15 +95,18 @@ static uint8_t *put_number(uint8_t *to, uint32_t number)
     return end;
 }
 
+/* By a buffer with room to spare, as bytes after the listing must stay. */
 static uint8_t *put_line(uint8_t *to, const line *l)
 {
-    to = put_piece(to, l->op);
+    uint8_t whole[LONGEST_LINE + LONGEST_PIECE];
+    uint8_t *end = put_piece(whole, l->op);
     for (uint32_t k = 0; k < l->count; k++) {
-        to = put_piece(to, l->before[k]);
-        to = put_number(to, l->numbers[k]);
+        end = put_piece(end, l->before[k]);
+        end = put_number(end, l->numbers[k]);
     }
-    *to = '\n';
-    return to + 1;
+    *end++ = '\n';
+    memcpy(to, whole, (size_t)(end - whole));
+    return to + (end - whole);
 }
 
 static line line_at(const uint8_t *program, uint64_t i)

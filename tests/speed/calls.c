@@ -9,6 +9,7 @@
 #include "../second/second.h"
 
 static uint8_t answer[UISNABAR_ANSWER_BYTES], recipe[UISNABAR_RECIPE_BYTES], grid[SECOND_GRID_BYTES];
+static uint8_t written[UISNABAR_WRITTEN_BYTES];
 
 void expect(uint32_t verdict, uint32_t wanted, const char *what)
 {
@@ -107,6 +108,33 @@ uint32_t second_translates(job *j)
 {
     speed_input *in = j->in;
     return told(second_translate(in->old, in->old_len, in->program, in->program_len));
+}
+
+uint32_t library_list(job *j)
+{
+    speed_input *in = j->in;
+    return uisnabar_list(in->program, in->program_len, in->text, in->text_len, written, sizeof written, answer, sizeof answer);
+}
+
+uint32_t second_lists(job *j)
+{
+    speed_input *in = j->in;
+    uint64_t length;
+    return told(second_list(in->program, in->program_len, in->text, in->text_len, &length));
+}
+
+uint32_t library_read_listing(job *j)
+{
+    speed_input *in = j->in;
+    return uisnabar_read_listing(in->text, in->text_len, in->program, in->program_len, written, sizeof written, answer,
+                                 sizeof answer);
+}
+
+uint32_t second_reads_listing(job *j)
+{
+    speed_input *in = j->in;
+    uint64_t length;
+    return told(second_read_listing(in->text, in->text_len, in->program, in->program_len, &length));
 }
 
 /* labels of every seed in turn, so that no call can be left out */

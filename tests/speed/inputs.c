@@ -3,9 +3,10 @@
 #include <stdlib.h>
 #include <string.h>
 
+#include "../second/second.h"
 #include "../second/word.h"
 
-enum { DRAWN = 1024, LENGTH = 4, EVERY = 16, ROW = 120 };
+enum { DRAWN = 1024, LENGTH = 4, EVERY = 16, ROW = 120, LONGEST_LINE = 77 };
 
 typedef struct {
     speed_input *in;
@@ -252,9 +253,44 @@ speed_input speed_old(unsigned log)
     return in;
 }
 
+static void any_instruction(builder *b, size_t i)
+{
+    uint32_t w[12] = {0}, kind = draw(b) % 5, c = draw(b) % 3;
+    for (size_t k = A; k <= FB; k++)
+        w[k] = k <= C ? draw(b) % P : draw(b) % 2;
+    w[FC] = c == 0 && kind != 3;
+    w[FPC] = c == 1;
+    if (kind == 4) {
+        w[FPAB] = w[FA] == 0 && w[FB] == 0 && draw(b) % 2 == 0;
+        w[DATA] = 2 * (draw(b) % 2) + (4u << draw(b) % 3) + 32 * (1 + draw(b) % (1u << 20));
+    } else if (kind == 2) {
+        w[FA] = 0;
+        w[FB] = 1;
+        w[AUX] = 2;
+    } else {
+        w[kind == 0 ? AUX : kind == 1 ? MUL : JUMP] = 1;
+    }
+    put_instruction(b, i, w);
+}
+
+speed_input speed_listing(unsigned log)
+{
+    speed_input in = blank(log, 8, 8);
+    builder b = {.in = &in, .state = 1};
+    uint64_t written;
+    for (size_t i = 0; i < in.height; i++)
+        any_instruction(&b, i);
+    in.text = zeros(LONGEST_LINE * in.height);
+    if (second_list(in.program, in.program_len, in.text, LONGEST_LINE * in.height, &written).verdict != 0)
+        abort();
+    in.text_len = written;
+    return in;
+}
+
 void speed_free(speed_input *in)
 {
     free(in->old);
+    free(in->text);
     free(in->program);
     free(in->memory);
     free(in->exec);

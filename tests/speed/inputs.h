@@ -11,6 +11,8 @@ typedef struct {
     uint8_t *program, *memory, *exec, *ext, *shuffled;
     size_t old_len;
     uint8_t *old; /* a program of draft 0.5.0 */
+    size_t text_len;
+    uint8_t *text; /* the program's listing */
 } speed_input;
 
 /* Program and memory of a run of `height` steps with a quarter as many extension rows; both tables zero. */
@@ -32,6 +34,9 @@ speed_input speed_halted(unsigned height_log);
 
 /* In `old` a program of draft 0.5.0, of all kinds, flags and AUX words; `program` has room for its translation. */
 speed_input speed_old(unsigned log);
+
+/* Instructions of all kinds, modes and lengths, with words of any size, and in `text` their listing. */
+speed_input speed_listing(unsigned log);
 
 void speed_free(speed_input *in);
 

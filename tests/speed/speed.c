@@ -10,7 +10,7 @@
 
 #include "calls.h"
 
-enum { SIZES = 3, REFUSED = 4, ROUNDS = 41, FEW = 3, BUS = 7 };
+enum { SIZES = 3, REFUSED = 4, ROUNDS = 41, SOME = 11, FEW = 3, BUS = 7 };
 
 /* Counting takes at most so many times what judging the same table takes. */
 static const double budget = 1.25;
@@ -236,6 +236,28 @@ static void translations(void)
     }
 }
 
+/* Listings, up to the longest that there may be. */
+static void listings(void)
+{
+    static const unsigned logs[SIZES] = {12, 16, 20};
+    static const char *const sizes[SIZES] = {"2^12 instructions", "2^16 instructions", "2^20 instructions"};
+    static speed_input in[SIZES];
+    static compared c[SIZES];
+    for (int s = 0; s < SIZES; s++) {
+        in[s] = speed_listing(logs[s]);
+        c[s] = (compared){.size = sizes[s], .units = (double)in[s].height};
+        c[s].j = (job){.in = &in[s], .calls = s == 0 ? 64 : s == 1 ? 4 : 1};
+    }
+    compare("listing, each instruction", c, SIZES, SOME, library_list, second_lists);
+    compare("listing read, each instruction", c, SIZES, SOME, library_read_listing, second_reads_listing);
+    for (int s = 0; s < SIZES; s++) {
+        double megabytes = (double)in[s].text_len / 1e6;
+        printf("%-34s %-26s library reads %.0f MB/s of text, second %.0f MB/s\n", "", sizes[s], megabytes / c[s].library,
+               megabytes / c[s].second);
+        speed_free(&in[s]);
+    }
+}
+
 static void labels(uint32_t version, const char *what)
 {
     static const uint32_t ns[SIZES] = {1, 62, 124};
@@ -259,6 +281,7 @@ int main(void)
     makers(1, "maker, each cell");
     makers(2, "maker, each cell, version 2");
     translations();
+    listings();
     labels(1, "label reader, each byte");
     labels(2, "label reader, each byte, version 2");
     whole();
