@@ -113,7 +113,8 @@ uint32_t second_translates(job *j)
 uint32_t library_list(job *j)
 {
     speed_input *in = j->in;
-    return uisnabar_list(in->program, in->program_len, in->text, in->text_len, written, sizeof written, answer, sizeof answer);
+    return uisnabar_list(in->program, in->program_len, in->text, in->text_len, written, sizeof written, answer,
+                         sizeof answer);
 }
 
 uint32_t second_lists(job *j)

@@ -252,8 +252,8 @@ static void listings(void)
     compare("listing read, each instruction", c, SIZES, SOME, library_read_listing, second_reads_listing);
     for (int s = 0; s < SIZES; s++) {
         double megabytes = (double)in[s].text_len / 1e6;
-        printf("%-34s %-26s library reads %.0f MB/s of text, second %.0f MB/s\n", "", sizes[s], megabytes / c[s].library,
-               megabytes / c[s].second);
+        printf("%-34s %-26s library reads %.0f MB/s of text, second %.0f MB/s\n", "", sizes[s],
+               megabytes / c[s].library, megabytes / c[s].second);
         speed_free(&in[s]);
     }
 }
