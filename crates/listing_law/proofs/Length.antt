@@ -41,8 +41,14 @@ operand-most o = omega (arith, length-append (modeName (o .mode)) (decimal (o .w
 
 call-most : (k : Kind) → length (callText k) ≤ 47
 call-most (Extension op be n) =
-    omega (arith, length-append (beKey ++ decimal (bit be) ++ nKey) (decimal n), length-append (beKey ++ decimal (bit be)) nKey,
-    length-append beKey (decimal (bit be)), digits-most 20 (bit be), digits-most 20 n)
+    omega (
+      arith,
+      length-append (beKey ++ decimal (bit be) ++ nKey) (decimal n),
+      length-append (beKey ++ decimal (bit be)) nKey,
+      length-append beKey (decimal (bit be)),
+      digits-most 20 (bit be),
+      digits-most 20 n,
+    )
 call-most Add = omega arith
 call-most Mul = omega arith
 call-most Deref = omega arith

@@ -61,9 +61,9 @@ one-program P Q p q e =
     let (fs, some, most, each, is) = of-forms P p in
     let (gs, some′, most′, each′, is′) = of-forms Q q in
     let same : flat formLine gs ≡ flat formLine fs =
-        sym (its-listing gs each′) ∙ ap listingOf is′ ∙ sym e ∙ ap listingOf (sym is) ∙ its-listing fs each in
+    sym (its-listing gs each′) ∙ ap listingOf is′ ∙ sym e ∙ ap listingOf (sym is) ∙ its-listing fs each in
     let other : Spells listingLines (flat formLine fs) gs =
-        subst (λ (t : List ℕ). Spells listingLines t gs) same (spelling-listing .complete gs (some′, most′, each′)) in
+    subst (λ (t : List ℕ). Spells listingLines t gs) same (spelling-listing .complete gs (some′, most′, each′)) in
     sym is ∙ ap programOf (spells-one (flat formLine fs) listingLines fs gs (spelling-listing .complete fs (some, most, each)) other) ∙ is′
 
 -- a text means one thing
@@ -77,8 +77,7 @@ means-one text (LeavesAt j) (LeavesAt k) m n = ap LeavesAt (unique j k (m .1) (n
 pub assembles-one : (text buffer : List ℕ) (r s : Transcribed) (after later : List ℕ) → Assembles text buffer r after → Assembles text buffer s later
     → (r ≡ s) × (after ≡ later)
 assembles-one text buffer r s after later a b =
-    let e = means-one text (a .sense) (b .sense) (a .means) (b .means) in
-    (
+    let e = means-one text (a .sense) (b .sense) (a .means) (b .means) in (
       a .returned ∙ ap (λ (x : Sense). assembled x buffer) e ∙ sym (b .returned),
       a .left ∙ ap (λ (x : Sense). assembledIn x buffer) e ∙ sym (b .left),
     )

@@ -67,7 +67,15 @@ fn last_end(kind: u64) -> u8
 }
 
 // What is left of a line behind operand c: be= and n= of an extension, and nothing of another kind.
-fn read_call(text: &[u8], from: Cursor, kind: u64, op: u64, a: Operand, b: Operand, c: Operand) -> Read
+fn read_call(
+    text: &[u8],
+    from: Cursor,
+    kind: u64,
+    op: u64,
+    a: Operand,
+    b: Operand,
+    c: Operand,
+) -> Read
     requires { ⌜ from .at ≤ length (now text) ⌝ }
     ensures { λ r. ⌜ CallRead (now (text .entry)) from kind op a b c r ⌝ }
 {

@@ -158,8 +158,8 @@ module _ (text : List ℕ) (at : ℕ) (gs : List Form) (e : ending text ≡ whol
   unfolding lineFields lit
   more-lines r fs is =
       let l : Lines Listable r fs gs =
-          spells-kind true (Lines Listable r fs) (drop at text) (many lineFields r fs) gs (spelling-many spelling-line r fs .live)
-          (parse-spells (many lineFields r fs) (drop at text) gs (whole-got _ gs is)) in
+      spells-kind true (Lines Listable r fs) (drop at text) (many lineFields r fs) gs (spelling-many spelling-line r fs .live)
+      (parse-spells (many lineFields r fs) (drop at text) gs (whole-got _ gs is)) in
       (l .0, l .1)
 
   front-by : (room : ℕ) (fs : List Form)

@@ -80,5 +80,5 @@ module _ (fs : List Form) (f : Form) (before t x : List ℕ) (i : ℕ) (stood : 
       let n : 48 * length (fs ++ (f ∷ [])) ≡ 48 * i + 48 = omega (arith, length-append fs (f ∷ []), many) in
       let front : take (48 * i) t ≡ programOf fs = ap (take (48 * i)) stood ∙ take-at (programOf fs) (drop (48 * length fs) before) (48 * i) long in
       let rest : drop (48 * i) t ≡ drop (48 * i) before =
-          ap (drop (48 * i)) stood ∙ drop-at (programOf fs) (drop (48 * length fs) before) (48 * i) long ∙ ap (λ (k : ℕ). drop (48 * k) before) many in
+      ap (drop (48 * i)) stood ∙ drop-at (programOf fs) (drop (48 * length fs) before) (48 * i) long ∙ ap (λ (k : ℕ). drop (48 * k) before) many in
       rw (e, front, rest, drop-drop 48 (48 * i) before, n, bytes, programOf-snoc fs f) (sym (append-assoc (programOf fs) (formBytes f) (drop (48 * i + 48) before)))

@@ -1,7 +1,8 @@
-// The C library: the judge, form counts, programs from draft 0.5.0 and the label reader, as include/uisnabar.h declares
-// them.
+// The C library: the judge, form counts, programs from draft 0.5.0, listings and the label reader, as
+// include/uisnabar.h declares them.
 mod editions;
 mod forms;
+mod listings;
 
 use answer::Answer;
 use answer::accepted;
@@ -11,6 +12,8 @@ pub use forms::uisnabar_count;
 pub use forms::uisnabar_report;
 use label::Recipe;
 use label::read_label;
+pub use listings::uisnabar_list;
+pub use listings::uisnabar_read_listing;
 use reply::reply;
 use word::put_word;
 ghost use mathlib.Core.Path.{_≡_};

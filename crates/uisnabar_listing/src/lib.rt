@@ -3,8 +3,8 @@ use listing_reader::read_listing;
 use listing_spec::Transcribed;
 use listing_writer::list;
 use long::put_long;
-use reply::reply;
 use reply::misfit;
+use reply::reply;
 ghost use mathlib.Core.Path.{_≡_};
 ghost use mathlib.Core.Bool.{_&&_};
 ghost use lib.Dec.{eqb};
@@ -15,7 +15,7 @@ ghost use Rattle.uisnabar_listing.specs.ListCall.{listReturned, listText
 ghost use Rattle.uisnabar_listing.specs.ReadListingCall.{ReadListingCall};
 
 // Whether the buffers of fixed length have it.
-fn fits(written: usize, answer: usize) -> bool
+fn buffers_fit(written: usize, answer: usize) -> bool
     ensures { λ r. ⌜ r ≡ (eqb written 8 && eqb answer answerBytes) ⌝ }
 {
     (written == 8) & (answer == 24)
@@ -43,7 +43,7 @@ pub fn list_call(program: &[u8], text: &mut [u8], written: &mut [u8], answer: &m
     ensures { λ _. ⌜ now (written .exit) ≡ listWrittenLeft (now (program .entry)) (now (text .entry)) (now (written .entry)) (now (answer .entry)) ⌝ }
     ensures { λ _. ⌜ now (answer .exit) ≡ listAnswerLeft (now (program .entry)) (now (text .entry)) (now (written .entry)) (now (answer .entry)) ⌝ }
 {
-    if !fits(written.len(), answer.len()) {
+    if !buffers_fit(written.len(), answer.len()) {
         return misfit();
     }
     let done = list(program, text);
@@ -51,13 +51,18 @@ pub fn list_call(program: &[u8], text: &mut [u8], written: &mut [u8], answer: &m
 }
 
 // A listing's program. ANSWER comes first.
-pub fn read_listing_call(text: &[u8], program: &mut [u8], written: &mut [u8], answer: &mut [u8]) -> u32
+pub fn read_listing_call(
+    text: &[u8],
+    program: &mut [u8],
+    written: &mut [u8],
+    answer: &mut [u8],
+) -> u32
     ensures { λ r. ⌜
         ReadListingCall (now (text .entry)) (now (program .entry)) (now (written .entry)) (now (answer .entry))
         (now (program .exit)) (now (written .exit)) (now (answer .exit)) r
         ⌝ }
 {
-    if !fits(written.len(), answer.len()) {
+    if !buffers_fit(written.len(), answer.len()) {
         return misfit();
     }
     let done = read_listing(text, program);

@@ -24,8 +24,8 @@ returns c =
     let at-n = c .before .before .before .before .read-literal2 .ensures in
     let n = c .before .before .before .read-number in
     let same = ap (λ (o : Op). cond (n .result .stopped) (left (drop (n .result .at) (a .text .now)))
-        (got (formFrom (Extension o (eqb (be .result .value) 1) (n .result .value)) (a .a) (a .b) (a .c)) (drop (n .result .at) (a .text .now))))
-        (sym (c .before .before .op-of .ensures)) in
+    (got (formFrom (Extension o (eqb (be .result .value) 1) (n .result .value)) (a .a) (a .b) (a .c)) (drop (n .result .at) (a .text .now))))
+    (sym (c .before .before .op-of .ensures)) in
     record {
       inside = n .ensures .1;
       read =

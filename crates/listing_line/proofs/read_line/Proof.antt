@@ -53,10 +53,10 @@ returns c =
     let mb = subst (λ (r : Span). Read (modes r) text (c .before .before .before .before .before .before .before .before .before .before .before .before .before .read-literal3 .result) (c .before .before .before .before .before .before .before .before .before .before .before .read-mode2 .result)) (kb .ensures) (c .before .before .before .before .before .before .before .before .before .before .before .read-mode2 .ensures) in
     let mc = subst (λ (r : Span). Read (modes r) text (c .before .before .before .before .before .before .before .before .read-literal4 .result) (c .before .before .before .before .before .before .read-mode3 .result)) (kc .ensures) (c .before .before .before .before .before .before .read-mode3 .ensures) in
     let last =
-        subst (λ (e : ℕ). Read (wordField e) text (c .before .before .before .before .before .before .read-mode3 .result) (wc .result)) (end .ensures) (wc .ensures .0, wc .ensures .1) in
+    subst (λ (e : ℕ). Read (wordField e) text (c .before .before .before .before .before .before .read-mode3 .result) (wc .result)) (end .ensures) (wc .ensures .0, wc .ensures .1) in
     let same : toward (fromCall (kind .result .value) (c .before .before .before .before .before .before .before .before .before .before .before .before .before .before .before .before .before .before .before .before .read-op .result .value) _ _ _) text (wc .result)
-        ≡ toward (fromCall (kind .result .value) (c .before .before .before .before .before .before .before .before .before .before .before .before .before .before .before .before .before .before .before .before .read-op .result .value) (c .before .before .before .operand-from .result) (c .before .before .operand-from2 .result) (c .before .operand-from3 .result)) text (wc .result) =
-        λ i. toward (fromCall (kind .result .value) (c .before .before .before .before .before .before .before .before .before .before .before .before .before .before .before .before .before .before .before .before .read-op .result .value) (sym (c .before .before .before .operand-from .ensures) i) (sym (c .before .before .operand-from2 .ensures) i) (sym (c .before .operand-from3 .ensures) i)) text (wc .result) in
+    ≡ toward (fromCall (kind .result .value) (c .before .before .before .before .before .before .before .before .before .before .before .before .before .before .before .before .before .before .before .before .read-op .result .value) (c .before .before .before .operand-from .result) (c .before .before .operand-from2 .result) (c .before .operand-from3 .result)) text (wc .result) =
+    λ i. toward (fromCall (kind .result .value) (c .before .before .before .before .before .before .before .before .before .before .before .before .before .before .before .before .before .before .before .before .read-op .result .value) (sym (c .before .before .before .operand-from .ensures) i) (sym (c .before .before .operand-from2 .ensures) i) (sym (c .before .operand-from3 .ensures) i)) text (wc .result) in
     record {
       inside = rest .inside;
       read =

@@ -1,59 +1,40 @@
+-- `uisnabar_listing::read_listing_call` meets its contract: ANSWER, or what is told.
+use mathlib.Core.Path.{refl, sym, _∙_}
+use native.Mathlib.Omega.{arith}
 use borrow.Author.Needs.{needs}
+use borrow.Author.Tests.{not-true, not-false}
+use Rattle.uisnabar_listing.proofs.CallEnds.{reads-by, unread, told, written-whole, answer-whole}
 use Rattle.uisnabar_listing.proofs.read_listing_call.Statement.{statement}
 use Rattle.uisnabar_listing.proofs.read_listing_call.Tie as tie
-use Rattle.uisnabar_listing.proofs.read_listing_call.Reads as reads
-use Rattle.uisnabar_listing.proofs.read_listing_call.Lts as lts
-use Rattle.listing_reader.proofs.read_listing.Reads as read-listing-reads
-use Rattle.reply.proofs.misfit.Reads as misfit-reads
-use Rattle.uisnabar_listing.proofs.fits.Reads as fits-reads
-use Rattle.uisnabar_listing.proofs.tell.Reads as tell-reads
 
--- src/lib.rt:60:9
-fits-requires : tie.Need-fits-requires
-fits-requires c κs = search needs
-
--- src/lib.rt:61:9
-misfit-requires : tie.Need-misfit-requires
-misfit-requires c κs = search needs
-
--- src/lib.rt:61:9
 returns : tie.Need-returns
-returns c = ?
+returns c =
+    let s = c .before .before .before .before .before .before .before in
+    unread (s .args .text .now) (s .args .program .now) (s .args .written .now) (s .args .answer .now)
+    (sym (c .before .before .buffers-fit .ensures) ∙ not-true _ (c .before .if1 .taken)) (c .misfit .ensures)
 
--- src/lib.rt:63:9
-read-listing-requires : tie.Need-read-listing-requires
-read-listing-requires c κs = search needs
-
--- src/lib.rt:64:5
 tell-requires : tie.Need-tell-requires
-tell-requires c κs = ?
+tell-requires c κs =
+    let s = c .before .before .before .before .before .before .before .before .before .before .before .before in
+    let e = sym (c .before .before .before .before .before .before .before .buffers-fit .ensures) ∙ not-false _ (c .before .before .before .before .before .before .if1 .left) in
+    (written-whole (s .args .written .now) (s .args .answer .now) e, answer-whole (s .args .written .now) (s .args .answer .now) e)
 
--- src/lib.rt:54:1
-same-length : tie.Need-same-length
-same-length c = search needs
-
--- src/lib.rt:54:1
-same-length-2 : tie.Need-same-length-2
-same-length-2 c = search needs
-
--- src/lib.rt:54:1
-same-length-3 : tie.Need-same-length-3
-same-length-3 c = search needs
-
--- src/lib.rt:54:1
 returns-2 : tie.Need-returns-2
-returns-2 c = ?
+returns-2 c =
+    let s = c .before .before .before .before .before .before .before .before .before .before .before .before .before .before .before .before .before in
+    reads-by (s .args .text .now) (s .args .program .now) (s .args .written .now) (s .args .answer .now) (c .before .before .before .before .before .before .before .before .before .read-listing .result) (c .before .before .before .before .before .before .before .before .before .read-listing .last .1 .0) (c .before .before .before .before .before .before .before .before .before .read-listing .ensures)
+    (told (s .args .written .now) (s .args .answer .now) (sym (c .before .before .before .before .before .before .before .before .before .before .before .before .buffers-fit .ensures) ∙ not-false _ (c .before .before .before .before .before .before .before .before .before .before .before .if1 .left)) (c .before .before .before .before .before .before .before .before .before .read-listing .result) (c .before .before .before .before .before .before .before .before .before .read-listing .last .1 .0) (s .args .program .now) _ _ _ _ refl (c .before .before .before .before .tell .ensures))
 
 pub read-listing-call-spec : {M : Type 1} → statement M
 read-listing-call-spec =
     tie.close
     (tie.spec
-    fits-requires
-    misfit-requires
+    (λ c κs. search needs)
+    (λ c κs. search needs)
     returns
-    read-listing-requires
+    (λ c κs. search needs)
     tell-requires
-    same-length
-    same-length-2
-    same-length-3
+    (λ c. search needs)
+    (λ c. search needs)
+    (λ c. search needs)
     returns-2)

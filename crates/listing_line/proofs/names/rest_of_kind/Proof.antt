@@ -14,22 +14,22 @@ rest-of-kind-spec =
     (λ c. search needs)
     (λ c κs. search needs)
     (λ c. let v = c .before .before .before .before .before .args .letter .value in
-        rw (ne-eqb v 0 (c .before .before .before .if1 .left), eq-eqb v 1 (c .before .before .if2 .taken)) (c .read-literal2 .ensures))
+    rw (ne-eqb v 0 (c .before .before .before .if1 .left), eq-eqb v 1 (c .before .before .if2 .taken)) (c .read-literal2 .ensures))
     (λ c. search needs)
     (λ c κs. search needs)
     (λ c. let v = c .before .before .before .before .before .before .args .letter .value in
-        rw (
-          ne-eqb v 0 (c .before .before .before .before .if1 .left),
-          ne-eqb v 1 (c .before .before .before .if2 .left),
-          eq-eqb v 2 (c .before .before .if3 .taken),
-        )
-        (c .read-literal3 .ensures))
+    rw (
+      ne-eqb v 0 (c .before .before .before .before .if1 .left),
+      ne-eqb v 1 (c .before .before .before .if2 .left),
+      eq-eqb v 2 (c .before .before .if3 .taken),
+    )
+    (c .read-literal3 .ensures))
     (λ c. search needs)
     (λ c κs. search needs)
     (λ c. let v = c .before .before .before .before .before .before .args .letter .value in
-        rw (
-          ne-eqb v 0 (c .before .before .before .before .if1 .left),
-          ne-eqb v 1 (c .before .before .before .if2 .left),
-          ne-eqb v 2 (c .before .before .if3 .left),
-        )
-        (c .read-literal4 .ensures)))
+    rw (
+      ne-eqb v 0 (c .before .before .before .before .if1 .left),
+      ne-eqb v 1 (c .before .before .before .if2 .left),
+      ne-eqb v 2 (c .before .before .if3 .left),
+    )
+    (c .read-literal4 .ensures)))

@@ -54,7 +54,7 @@ loop-again c =
         omega (arith, length-append (fs .0) (read .result .form ∷ []), fs .1),
         next-line (s .args .text .now) (w .forms) (w .ends) (l .place) (fs .0) (fs .2) (omega (arith, fs .1, w .many, more)) (read .result) (read .ensures),
         one-more (fs .0) (read .result .form) (s .args .program .now) (l .program) (put .last .0) (l .i) (fs .3) (fs .1) (omega (arith, more, s .pre .1, l .inv .1))
-        (made .result) (made .ensures) (put .ensures),
+            (made .result) (made .ensures) (put .ensures),
       ),
     )
 

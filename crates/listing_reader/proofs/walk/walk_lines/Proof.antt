@@ -37,8 +37,7 @@ returns-2 : tie.Need-returns-2 Inv-loop μ-loop
 returns-2 c =
     let l = c .before .before .before .before .loop in
     let i = l .inv in
-    let r = c .before .read-line in
-    (
+    let r = c .before .read-line in (
       r .ensures .inside,
       stops _ (l .at) (i .0) (i .2) (omega (arith, i .1, i .3, c .before .before .if1 .left)) (c .before .before .before .loop-test .taken) (r .result) (r .ensures) (c .if2 .taken),
     )
