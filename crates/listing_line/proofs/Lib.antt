@@ -3,3 +3,4 @@ pub mod Parts
 pub mod Lines
 pub mod Listable
 pub mod ByFields
+pub mod Known

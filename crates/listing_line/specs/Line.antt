@@ -2,8 +2,8 @@
 -- (listing_spec, specs/Reading) knows nothing of this.
 -- Declared in src/: Op, Mode, Operand, Kind, Form (form); Cursor (text_fields); Span (listing_forms);
 -- Read (here).
-use Prim.Native.Nat.{ℕ, _≤_}
-use mathlib.Core.Bool.{cond}
+use Prim.Native.Nat.{ℕ, _-_, _≤_}
+use mathlib.Core.Bool.{true, false, cond}
 use mathlib.Core.List.{List, [], _∷_}
 use mathlib.Core.Path.{_≡_}
 use lib.Dec.{eqb}
@@ -106,6 +106,16 @@ listingLines = seq lineFields (λ f. many lineFields 1048575 (f ∷ []))
 -- a form and the bytes behind it; or those from which on the text is no line's
 abbrev pub lineAs : List ℕ → Read → Parsed Form
 lineAs text r = cond (r .stopped) (left (drop (r .at) text)) (got (r .form) (drop (r .at) text))
+
+-- the form of a line that is none
+abbrev pub noForm : Form
+noForm = formFrom Add (operandFrom 0 0) (operandFrom 0 0) (operandFrom 0 0)
+
+-- a reading of a text's last bytes: a form and the place behind its line, or the place where the text leaves every
+-- valid one
+abbrev pub readAs : List ℕ → Parsed Form → Read
+readAs text (got form rest) = record { form = form; at = length text - length rest; stopped = false }
+readAs text (left rest) = record { form = noForm; at = length text - length rest; stopped = true }
 
 -- the pattern's own reading of a line from a place on, and of its end from where a cursor stands
 pub record LineRead (text : List ℕ) (from : ℕ) (r : Read) : Type 0 where

@@ -3,6 +3,7 @@ mod names;
 
 use form::Form;
 use form::Kind;
+use form::Mode;
 use form::Operand;
 use listing_forms::a_range;
 use listing_forms::b_range;
@@ -16,13 +17,15 @@ use text_fields::read_digit;
 use text_fields::read_letter;
 use text_fields::read_literal;
 use text_fields::read_number;
+ghost use mathlib.Core.Bool.{true};
 ghost use mathlib.Core.Path.{_≡_};
 ghost use Prim.Native.Nat.{_≤_, _<_};
-ghost use lib.ListN.{length};
+ghost use lib.ListN.{length, drop};
+ghost use Rattle.text_patterns.specs.Pattern.{parse};
 ghost use Rattle.listing_forms.specs.Forms.{greatest};
-ghost use Rattle.listing_line.specs.Line.{lastEnd, operandFrom, plainKind, CallRead, LineRead};
+ghost use Rattle.listing_line.specs.Line.{lastEnd, operandFrom, plainKind, lineFields, noForm, readAs, CallRead, LineRead};
 
-// How far a line was read, and its form; where the text has left every valid one that means nothing.
+// How far a line was read, and its form; a blank one where the text has left every valid line.
 pub struct Read {
     pub form: Form,
     pub at: usize,
@@ -103,8 +106,8 @@ fn read_call(
     }
 }
 
-// A line from a byte of the text on.
-pub fn read_line(text: &[u8], from: usize) -> Read
+// The fields of a line, each read behind the one before it; the form means nothing where the text leaves every valid one.
+fn read_fields(text: &[u8], from: usize) -> Read
     requires { ⌜ from ≤ length (now text) ⌝ }
     ensures { λ r. ⌜ LineRead (now (text .entry)) from r ⌝ }
 {
@@ -129,4 +132,36 @@ pub fn read_line(text: &[u8], from: usize) -> Read
     let b_read = operand_from(b_mode.value, b.value);
     let c_read = operand_from(c_mode.value, c.value);
     read_call(text, c, kind.value, op.value, a_read, b_read, c_read)
+}
+
+// No line goes on at a place.
+fn stopped_at(at: usize) -> Read
+    ensures { λ r. ⌜ r ≡ record { form = noForm; at = at; stopped = true } ⌝ }
+{
+    let blank = Operand {
+        mode: Mode::Immediate,
+        word: 0,
+    };
+    Read {
+        form: Form {
+            kind: Kind::Add,
+            a: blank,
+            b: blank,
+            c: blank,
+        },
+        at,
+        stopped: true,
+    }
+}
+
+// A line from a byte of the text on.
+pub fn read_line(text: &[u8], from: usize) -> Read
+    requires { ⌜ from ≤ length (now text) ⌝ }
+    ensures { λ r. ⌜ (r ≡ readAs (now (text .entry)) (parse lineFields (drop from (now (text .entry))))) × (r .at ≤ length (now (text .entry))) ⌝ }
+{
+    let read = read_fields(text, from);
+    if read.stopped {
+        return stopped_at(read.at);
+    }
+    read
 }

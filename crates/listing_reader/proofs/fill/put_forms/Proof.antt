@@ -7,6 +7,7 @@ use borrow.Author.Needs.{needs}
 use lib.ListN.{length, length-append}
 use Rattle.form.specs.declared.Form.{Form}
 use Rattle.text_patterns.specs.Pattern.{flat}
+use Rattle.listing_line.proofs.Known.{line-known}
 use Rattle.listing_reader.specs.Walk.{End, filledBy}
 use Rattle.listing_reader.proofs.Ends.{Behind, begins}
 use Rattle.listing_reader.proofs.Filling.{filled, next-line, its-form, all-lines, one-more}
@@ -34,7 +35,7 @@ instruction-of-requires c κs =
     let w = s .pre .0 in
     let fs = l .inv .2 in
     its-form (s .args .text .now) (w .forms) (w .ends) (l .place) (fs .0) (fs .2) (omega (arith, fs .1, w .many, c .before .before .loop-test .taken))
-    (c .before .read-line .result) (c .before .read-line .ensures) .call
+    (c .before .read-line .result) (line-known (s .args .text .now) (l .place) (fs .2 .inside) (c .before .read-line .result) (c .before .read-line .ensures)) .call
 
 loop-again : tie.Need-loop-again Inv-loop μ-loop
 loop-again c =
@@ -52,7 +53,8 @@ loop-again c =
       (
         fs .0 ++ (read .result .form ∷ []),
         omega (arith, length-append (fs .0) (read .result .form ∷ []), fs .1),
-        next-line (s .args .text .now) (w .forms) (w .ends) (l .place) (fs .0) (fs .2) (omega (arith, fs .1, w .many, more)) (read .result) (read .ensures),
+        next-line (s .args .text .now) (w .forms) (w .ends) (l .place) (fs .0) (fs .2) (omega (arith, fs .1, w .many, more)) (read .result)
+            (line-known (s .args .text .now) (l .place) (fs .2 .inside) (read .result) (read .ensures)),
         one-more (fs .0) (read .result .form) (s .args .program .now) (l .program) (put .last .0) (l .i) (fs .3) (fs .1) (omega (arith, more, s .pre .1, l .inv .1))
             (made .result) (made .ensures) (put .ensures),
       ),

@@ -9,6 +9,7 @@ use borrow.Author.Needs.{needs}
 use borrow.Author.Tests.{eq-eqb, ne-eqb}
 use lib.ListN.{length, length-append}
 use Rattle.form.specs.declared.Form.{Form}
+use Rattle.listing_line.proofs.Known.{line-known}
 use Rattle.listing_reader.specs.Walk.{WalkedBy}
 use Rattle.listing_reader.specs.declared.Walked.{Walked}
 use Rattle.listing_reader.proofs.Ends.{Behind, begins, too-many, stops, goes, walked-out}
@@ -38,8 +39,8 @@ returns-2 c =
     let l = c .before .before .before .before .loop in
     let i = l .inv in
     let r = c .before .read-line in (
-      r .ensures .inside,
-      stops _ (l .at) (i .0) (i .2) (omega (arith, i .1, i .3, c .before .before .if1 .left)) (c .before .before .before .loop-test .taken) (r .result) (r .ensures) (c .if2 .taken),
+      r .ensures .1,
+      stops _ (l .at) (i .0) (i .2) (omega (arith, i .1, i .3, c .before .before .if1 .left)) (c .before .before .before .loop-test .taken) (r .result) (line-known _ (l .at) (i .2 .inside) (r .result) (r .ensures)) (c .if2 .taken),
     )
 
 loop-again : tie.Need-loop-again Inv-loop μ-loop
@@ -50,7 +51,7 @@ loop-again c =
     let few : length (i .0) < 1048576 = omega (arith, i .1, i .3, c .before .before .if1 .left) in (
       i .0 ++ (r .result .form ∷ []),
       omega (arith, length-append (i .0) (r .result .form ∷ []), i .1),
-      goes _ (l .at) (i .0) (i .2) few (c .before .before .before .loop-test .taken) (r .result) (r .ensures) (c .if2 .left),
+      goes _ (l .at) (i .0) (i .2) few (c .before .before .before .loop-test .taken) (r .result) (line-known _ (l .at) (i .2 .inside) (r .result) (r .ensures)) (c .if2 .left),
       omega (arith, i .1, few),
     )
 
