@@ -67,7 +67,8 @@ pub fn b_range(kind: u64, a: u64) -> Span
     if a == 2 {
         return range(2, 2);
     }
-    range(0, 1)
+    let last = 1; // fp stands beside fp alone
+    range(0, last)
 }
 
 pub fn c_range(kind: u64) -> Span

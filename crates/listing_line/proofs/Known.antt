@@ -12,12 +12,12 @@ use Rattle.text_patterns.specs.Reader.{count}
 use Rattle.text_patterns.specs.Pattern.{step, Parsed, got, left, parse, unread}
 use Rattle.text_patterns.proofs.Parsing.{count-most, parse-rest}
 use Rattle.listing_line.specs.Line.{lineFields, lineAs, noForm, readAs, LineRead}
-use Rattle.listing_line.specs.declared.Read.{Read}
+use Rattle.listing_line.specs.declared.FormRead.{FormRead}
 
 place : (text : List ℕ) (i : ℕ) → i ≤ length text → length text - length (drop i text) ≡ i
 place text i h = omega (arith, length-drop i text)
 
-module _ (text : List ℕ) (from : ℕ) (r : Read) (l : LineRead text from r) where
+module _ (text : List ℕ) (from : ℕ) (r : FormRead) (l : LineRead text from r) where
   -- the fields are read, or not
   pub stopped-as : r .stopped ≡ true → record { form = noForm; at = r .at; stopped = true } ≡ readAs text (parse lineFields (drop from text))
   stopped-as e =
@@ -41,7 +41,7 @@ module _ (text : List ℕ) (from : ℕ) (inside : from ≤ length text) where
       let z : drop (length text - length rest) text ≡ rest = rw (e, place text i h) in
       ap left (sym z)
 
-  pub line-known : (r : Read) → (r ≡ readAs text (parse lineFields (drop from text))) × (r .at ≤ length text) → LineRead text from r
+  pub line-known : (r : FormRead) → (r ≡ readAs text (parse lineFields (drop from text))) × (r .at ≤ length text) → LineRead text from r
   line-known r h =
       let t = drop from text in
       let k = count step lineFields t in

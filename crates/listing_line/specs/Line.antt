@@ -1,7 +1,7 @@
 -- Inner: a line's fields, each behind the one before it, as the reader goes, and lines one after the other. The promise
 -- (listing_spec, specs/Reading) knows nothing of this.
 -- Declared in src/: Op, Mode, Operand, Kind, Form (form); Cursor (text_fields); Span (listing_forms);
--- Read (here).
+-- FormRead (here).
 use Prim.Native.Nat.{ℕ, _-_, _≤_}
 use mathlib.Core.Bool.{true, false, cond}
 use mathlib.Core.List.{List, [], _∷_}
@@ -21,7 +21,7 @@ use Rattle.listing_spec.specs.Listing.{opKey, aKey, nKey}
 use Rattle.listing_forms.specs.Ranges.{opOf, modeOf, aRange, bRange, cRange}
 use Rattle.listing_forms.specs.Forms.{greatest}
 use Rattle.listing_forms.specs.declared.Span.{Span}
-use Rattle.listing_line.specs.declared.Read.{Read}
+use Rattle.listing_line.specs.declared.FormRead.{FormRead}
 
 -- a kind by its first letter, a m d j x, an operation by its second, a m p, a mode by its first, i c f
 abbrev pub kindLetters : List ℕ
@@ -104,7 +104,7 @@ unfoldable pub listingLines : Pattern (List Form)
 listingLines = seq lineFields (λ f. many lineFields 1048575 (f ∷ []))
 
 -- a form and the bytes behind it; or those from which on the text is no line's
-abbrev pub lineAs : List ℕ → Read → Parsed Form
+abbrev pub lineAs : List ℕ → FormRead → Parsed Form
 lineAs text r = cond (r .stopped) (left (drop (r .at) text)) (got (r .form) (drop (r .at) text))
 
 -- the form of a line that is none
@@ -113,15 +113,15 @@ noForm = formFrom Add (operandFrom 0 0) (operandFrom 0 0) (operandFrom 0 0)
 
 -- a reading of a text's last bytes: a form and the place behind its line, or the place where the text leaves every
 -- valid one
-abbrev pub readAs : List ℕ → Parsed Form → Read
+abbrev pub readAs : List ℕ → Parsed Form → FormRead
 readAs text (got form rest) = record { form = form; at = length text - length rest; stopped = false }
 readAs text (left rest) = record { form = noForm; at = length text - length rest; stopped = true }
 
 -- the pattern's own reading of a line from a place on, and of its end from where a cursor stands
-pub record LineRead (text : List ℕ) (from : ℕ) (r : Read) : Type 0 where
+pub record LineRead (text : List ℕ) (from : ℕ) (r : FormRead) : Type 0 where
   pub inside : r .at ≤ length text
   pub read : parse lineFields (drop from text) ≡ lineAs text r
 
-pub record CallRead (text : List ℕ) (from : Cursor) (k o : ℕ) (a b c : Operand) (r : Read) : Type 0 where
+pub record CallRead (text : List ℕ) (from : Cursor) (k o : ℕ) (a b c : Operand) (r : FormRead) : Type 0 where
   pub inside : r .at ≤ length text
   pub read : onto (λ v. parse (fromCall k o a b c)) (standing text from) ≡ lineAs text r

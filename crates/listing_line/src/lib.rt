@@ -26,7 +26,7 @@ ghost use Rattle.listing_forms.specs.Forms.{greatest};
 ghost use Rattle.listing_line.specs.Line.{lastEnd, operandFrom, plainKind, lineFields, noForm, readAs, CallRead, LineRead};
 
 // How far a line was read, and its form; a blank one where the text has left every valid line.
-pub struct Read {
+pub struct FormRead {
     pub form: Form,
     pub at: usize,
     pub stopped: bool,
@@ -78,7 +78,7 @@ fn read_call(
     a: Operand,
     b: Operand,
     c: Operand,
-) -> Read
+) -> FormRead
     requires { ⌜ from .at ≤ length (now text) ⌝ }
     ensures { λ r. ⌜ CallRead (now (text .entry)) from kind op a b c r ⌝ }
 {
@@ -92,14 +92,14 @@ fn read_call(
             be: be.value == 1,
             n: n.value as u32,
         };
-        return Read {
+        return FormRead {
             form: Form { kind, a, b, c },
             at: n.at,
             stopped: n.stopped,
         };
     }
     let kind = plain_kind(kind);
-    Read {
+    FormRead {
         form: Form { kind, a, b, c },
         at: from.at,
         stopped: from.stopped,
@@ -107,7 +107,7 @@ fn read_call(
 }
 
 // The fields of a line, each read behind the one before it; the form means nothing where the text leaves every valid one.
-fn read_fields(text: &[u8], from: usize) -> Read
+fn read_fields(text: &[u8], from: usize) -> FormRead
     requires { ⌜ from ≤ length (now text) ⌝ }
     ensures { λ r. ⌜ LineRead (now (text .entry)) from r ⌝ }
 {
@@ -135,14 +135,14 @@ fn read_fields(text: &[u8], from: usize) -> Read
 }
 
 // No line goes on at a place.
-fn stopped_at(at: usize) -> Read
+fn stopped_at(at: usize) -> FormRead
     ensures { λ r. ⌜ r ≡ record { form = noForm; at = at; stopped = true } ⌝ }
 {
     let blank = Operand {
         mode: Mode::Immediate,
         word: 0,
     };
-    Read {
+    FormRead {
         form: Form {
             kind: Kind::Add,
             a: blank,
@@ -155,7 +155,7 @@ fn stopped_at(at: usize) -> Read
 }
 
 // A line from a byte of the text on.
-pub fn read_line(text: &[u8], from: usize) -> Read
+pub fn read_line(text: &[u8], from: usize) -> FormRead
     requires { ⌜ from ≤ length (now text) ⌝ }
     ensures { λ r. ⌜ (r ≡ readAs (now (text .entry)) (parse lineFields (drop from (now (text .entry))))) × (r .at ≤ length (now (text .entry))) ⌝ }
 {

@@ -18,7 +18,7 @@ use Rattle.text_patterns.proofs.Patterns.{spells-kind}
 use Rattle.text_patterns.proofs.Many.{Lines, spelling-many}
 use Rattle.listing_forms.specs.Forms.{Listable}
 use Rattle.listing_line.specs.Line.{lineFields, listingLines, lineAs, LineRead}
-use Rattle.listing_line.specs.declared.Read.{Read}
+use Rattle.listing_line.specs.declared.FormRead.{FormRead}
 use Rattle.listing_line.proofs.Listable.{spelling-line}
 use Rattle.listing_reader.specs.Walk.{End, whole, cut, endOf, ending, WalkRead}
 
@@ -77,7 +77,7 @@ module _ (text : List ℕ) where
         ∙ ap (λ (l : List ℕ). endOf (got fs l)) (drop-cons text at 0 h)
         ∙ ap cut (sym (drop-cons text at 0 h))
 
-    module _ (few : length fs < 1048576) (h : at < length text) (r : Read) (l : LineRead text at r) where
+    module _ (few : length fs < 1048576) (h : at < length text) (r : FormRead) (l : LineRead text at r) where
       abbrev left-over : ℕ
       left-over = s .room - 1
 

@@ -18,7 +18,7 @@ use Rattle.text_patterns.proofs.Parsing.{parse-kind}
 use Rattle.listing_forms.specs.Forms.{Listable, instructionOf, formBytes, programOf}
 use Rattle.listing_forms.proofs.Programs.{program-long, programOf-snoc}
 use Rattle.listing_line.specs.Line.{lineFields, listingLines, LineRead}
-use Rattle.listing_line.specs.declared.Read.{Read}
+use Rattle.listing_line.specs.declared.FormRead.{FormRead}
 use Rattle.listing_line.proofs.Listable.{spelling-line}
 use Rattle.listing_law.proofs.Senses.{Forms, read-forms}
 use Rattle.listing_reader.specs.Walk.{whole, ending, filledBy}
@@ -41,7 +41,7 @@ module _ (text : List ℕ) (gs : List Form) (is : ending text ≡ whole gs) wher
     bytes-left : at < length text
     bytes-left = by-order at (length text) (λ h. h) (λ h. absurd (over-by at fs s fewer h))
 
-    module _ (r : Read) (l : LineRead text at r) where
+    module _ (r : FormRead) (l : LineRead text at r) where
       on : r .stopped ≡ false
       on = cases (r .stopped) (λ e. absurd (not-both gs (drop (r .at) text) (sym is ∙ stops text at fs s few bytes-left r l e))) (λ e. e)
 

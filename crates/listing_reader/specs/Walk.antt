@@ -1,6 +1,6 @@
 -- Inner: how the reader's walk over the lines ends: with all of the text read, or with bytes left from which on it is
 -- no listing.
--- Declared in src/: Form (form); Walked (here).
+-- Declared in src/: Form (form); LineCount (here).
 use Prim.Native.Nat.{ℕ, _*_, _≤_}
 use mathlib.Core.Bool.{Bool, true, false}
 use mathlib.Core.List.{List, [], _∷_, _++_}
@@ -10,7 +10,7 @@ use Rattle.form.specs.declared.Form.{Form}
 use Rattle.text_patterns.specs.Pattern.{Parsed, got, left, parse}
 use Rattle.listing_forms.specs.Forms.{programOf}
 use Rattle.listing_line.specs.Line.{listingLines}
-use Rattle.listing_reader.specs.declared.Walked.{Walked}
+use Rattle.listing_reader.specs.declared.LineCount.{LineCount}
 
 pub data End : Type 0 where
   whole : List Form → End
@@ -37,9 +37,9 @@ filledBy (whole forms) buffer = programOf forms ++ drop (48 * length forms) buff
 filledBy (cut rest) buffer = buffer
 
 -- what the walk promises: where it stopped, or how many lines there are
-abbrev pub WalkedBy : Bool → List ℕ → Walked → Type 0
+abbrev pub WalkedBy : Bool → List ℕ → LineCount → Type 0
 WalkedBy true text r = (r .at ≤ length text) × (ending text ≡ cut (drop (r .at) text))
 WalkedBy false text r = Wholly text (r .lines)
 
-abbrev pub WalkRead : List ℕ → Walked → Type 0
+abbrev pub WalkRead : List ℕ → LineCount → Type 0
 WalkRead text r = WalkedBy (r .stopped) text r

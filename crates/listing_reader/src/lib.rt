@@ -11,7 +11,7 @@ ghost use mathlib.Core.Path.{_≡_};
 ghost use Rattle.listing_spec.specs.Reading.{Assembles};
 
 // How far a walk over the lines went, and how many it read.
-pub struct Walked {
+pub struct LineCount {
     pub at: usize,
     pub lines: usize,
     pub stopped: bool,

@@ -8,13 +8,13 @@ use native.Mathlib.Omega.{arith}
 use borrow.Author.Needs.{needs}
 use lib.ListN.{length}
 use Rattle.listing_reader.specs.Walk.{Wholly, WalkedBy, WalkRead}
-use Rattle.listing_reader.specs.declared.Walked.{Walked}
+use Rattle.listing_reader.specs.declared.LineCount.{LineCount}
 use Rattle.listing_reader.proofs.Answered.{at-fits, no-listing, lines-most, too-short, assembles}
 use Rattle.listing_reader.proofs.read_listing.Statement.{statement}
 use Rattle.listing_reader.proofs.read_listing.Tie as tie
 
 -- the walk's promise, where it stopped and where it did not
-known : (b : Bool) (text : List ℕ) (r : Walked) → r .stopped ≡ b → WalkRead text r → WalkedBy b text r
+known : (b : Bool) (text : List ℕ) (r : LineCount) → r .stopped ≡ b → WalkRead text r → WalkedBy b text r
 known b text r e w = subst (λ (x : Bool). WalkedBy x text r) e w
 
 place-fits : tie.Need-cast-t7

@@ -11,7 +11,7 @@ use lib.ListN.{length, length-append}
 use Rattle.form.specs.declared.Form.{Form}
 use Rattle.listing_line.proofs.Known.{line-known}
 use Rattle.listing_reader.specs.Walk.{WalkedBy}
-use Rattle.listing_reader.specs.declared.Walked.{Walked}
+use Rattle.listing_reader.specs.declared.LineCount.{LineCount}
 use Rattle.listing_reader.proofs.Ends.{Behind, begins, too-many, stops, goes, walked-out}
 use Rattle.listing_reader.proofs.walk.walk_lines.Statement.{statement}
 use Rattle.listing_reader.proofs.walk.walk_lines.Tie as tie
