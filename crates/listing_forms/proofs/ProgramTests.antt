@@ -32,20 +32,24 @@ module _ (program : List ℕ) where
       (words-pass 1 program (instructions (given program []) then) (passed .words)
       ∙ untouched (instructions-read (given program []) (tables [] [])) (length program / 48) Instruction then (passed .formed))
 
-  pub passed-by : programTests program Accepted ≡ Accepted → Passed program
-  passed-by =
+  -- what is accepted behind the tests has passed them
+  pub passed-then : (then : Answer) → programTests program then ≡ Accepted → Passed program × (then ≡ Accepted)
+  passed-then then =
       by-test Holds (programFits (length program))
       (λ fits.
-      tested (words-read program) (length program / 4) (Word 1) (instructions (given program []) Accepted) Holds
+      tested (words-read program) (length program / 4) (Word 1) (instructions (given program []) then) Holds
       (λ words.
-      tested (instructions-read (given program []) (tables [] [])) (length program / 48) Instruction Accepted Holds
-      (λ formed e. record { fits = fits; words = words; formed = formed })
+      tested (instructions-read (given program []) (tables [] [])) (length program / 48) Instruction then Holds
+      (λ formed e. (record { fits = fits; words = words; formed = formed }, e))
       (λ k h before bad. refused (Instruction k) refl))
       (λ k h before bad. refused (Word 1 k) refl))
       (λ bad. refused (Size 1 0) refl)
     where
       Holds : Answer → Type 0
-      Holds a = a ≡ Accepted → Passed program
+      Holds a = a ≡ Accepted → Passed program × (then ≡ Accepted)
 
       refused : (a : Answer) → accepted a ≡ false → Holds a
       refused a not e = absurd (true≢false (sym (ap accepted e) ∙ not))
+
+  pub passed-by : programTests program Accepted ≡ Accepted → Passed program
+  passed-by e = passed-then Accepted e .0

@@ -1,2 +1,3 @@
 pub mod Senses
 pub mod Length
+pub mod Listings
