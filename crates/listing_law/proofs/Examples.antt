@@ -1,0 +1,94 @@
+-- Lines and places byte for byte.
+-- Assumes nothing.
+use Prim.Native.Nat.{ℕ, _-_, _≤_}
+use mathlib.Core.Bool.{true}
+use mathlib.Core.List.{List, [], _∷_}
+use mathlib.Core.Path.{_≡_, refl, ap, subst, _∙_}
+use native.Mathlib.Omega.{arith}
+use lib.ListN.{length, drop, length-drop}
+use Rattle.form.specs.declared.Op.the-variants as op
+use Rattle.form.specs.declared.Mode.{Mode}
+use Rattle.form.specs.declared.Mode.the-variants.{Immediate, Cell, Frame}
+use Rattle.form.specs.declared.Operand.{Operand}
+use Rattle.form.specs.declared.Kind.{Kind}
+use Rattle.form.specs.declared.Kind.the-variants.{Add, Extension}
+use Rattle.form.specs.declared.Form.{Form}
+use Rattle.lines.specs.Line.{decimalIn}
+use Rattle.text_patterns.specs.Pattern.{lit, seq, left, parse}
+use Rattle.text_patterns.specs.Fields.{one, numberFrom, number}
+use Rattle.text_fields.specs.Digit.{decimalValue, indexIn}
+use Rattle.listing_spec.specs.Listing.{formLine}
+use Rattle.listing_spec.specs.Reading.{Sense, LeavesAt, Means}
+use Rattle.listing_line.specs.Line.{opTail, modes, fromCall, fromC, fromB, fromA, lineFields, listingLines}
+use Rattle.listing_law.proofs.Senses.{senseOf, means}
+
+abbrev of : Mode → ℕ → Operand
+of mode word = record { mode = mode; word = word }
+
+abbrev form : Kind → Operand → Operand → Operand → Form
+form kind a b c = record { kind = kind; a = a; b = b; c = c }
+
+-- op=add a=cell:0 b=imm:2130706432 c=fp:10
+pub line-of-add : formLine (form Add (of Cell 0) (of Immediate 2130706432) (of Frame 10))
+    ≡ 111 ∷ 112 ∷ 61 ∷ 97 ∷ 100 ∷ 100 ∷ 32 ∷ 97 ∷ 61 ∷ 99 ∷ 101 ∷ 108 ∷ 108 ∷ 58 ∷ 48 ∷ 32 ∷ 98 ∷ 61 ∷ 105 ∷ 109 ∷ 109 ∷ 58 ∷ 50 ∷ 49 ∷ 51 ∷ 48 ∷ 55 ∷ 48 ∷ 54 ∷ 52 ∷ 51 ∷ 50 ∷ 32 ∷ 99 ∷ 61 ∷ 102 ∷ 112 ∷ 58 ∷ 49 ∷ 48 ∷ 10 ∷ []
+unfolding formLine decimalIn
+line-of-add = refl
+
+-- op=xpeq a=fp:1 b=fp:2 c=cell:3 be=1 n=1048576
+pub line-of-xpeq : formLine (form (Extension op.Peq true 1048576) (of Frame 1) (of Frame 2) (of Cell 3))
+    ≡ 111 ∷ 112 ∷ 61 ∷ 120 ∷ 112 ∷ 101 ∷ 113 ∷ 32 ∷ 97 ∷ 61 ∷ 102 ∷ 112 ∷ 58 ∷ 49 ∷ 32 ∷ 98 ∷ 61 ∷ 102 ∷ 112 ∷ 58 ∷ 50 ∷ 32 ∷ 99 ∷ 61 ∷ 99 ∷ 101 ∷ 108 ∷ 108 ∷ 58 ∷ 51 ∷ 32 ∷ 98 ∷ 101 ∷ 61 ∷ 49 ∷ 32 ∷ 110 ∷ 61 ∷ 49 ∷ 48 ∷ 52 ∷ 56 ∷ 53 ∷ 55 ∷ 54 ∷ 10 ∷ []
+unfolding formLine decimalIn
+line-of-xpeq = refl
+
+leaves-at : (text : List ℕ) (k : ℕ) → k ≤ length text → parse listingLines text ≡ left (drop k text) → Means text (LeavesAt k)
+leaves-at text k h e =
+    let place : length text - length (drop k text) ≡ k = omega (arith, length-drop k text) in
+    subst (Means text) (ap (senseOf text) e ∙ ap LeavesAt place) (means text)
+
+-- a leading zero: nothing follows it
+abbrev pub leadingzeroText : List ℕ
+leadingzeroText = 111 ∷ 112 ∷ 61 ∷ 97 ∷ 100 ∷ 100 ∷ 32 ∷ 97 ∷ 61 ∷ 99 ∷ 101 ∷ 108 ∷ 108 ∷ 58 ∷ 48 ∷ 49 ∷ 32 ∷ 98 ∷ 61 ∷ 105 ∷ 109 ∷ 109 ∷ 58 ∷ 50 ∷ 32 ∷ 99 ∷ 61 ∷ 102 ∷ 112 ∷ 58 ∷ 51 ∷ 10 ∷ []
+
+pub leading-zero : Means leadingzeroText (LeavesAt 15)
+unfolding parse lit seq one numberFrom number indexIn decimalValue opTail modes fromCall fromC fromB fromA lineFields listingLines
+leading-zero = leaves-at leadingzeroText 15 (omega arith) refl
+
+-- p: its last digit is the first that does not fit
+abbrev pub wordpText : List ℕ
+wordpText = 111 ∷ 112 ∷ 61 ∷ 109 ∷ 117 ∷ 108 ∷ 32 ∷ 97 ∷ 61 ∷ 105 ∷ 109 ∷ 109 ∷ 58 ∷ 50 ∷ 49 ∷ 51 ∷ 48 ∷ 55 ∷ 48 ∷ 54 ∷ 52 ∷ 51 ∷ 51 ∷ 32 ∷ 98 ∷ 61 ∷ 99 ∷ 101 ∷ 108 ∷ 108 ∷ 58 ∷ 48 ∷ 32 ∷ 99 ∷ 61 ∷ 99 ∷ 101 ∷ 108 ∷ 108 ∷ 58 ∷ 48 ∷ 10 ∷ []
+
+pub word-p : Means wordpText (LeavesAt 22)
+unfolding parse lit seq one numberFrom number indexIn decimalValue opTail modes fromCall fromC fromB fromA lineFields listingLines
+word-p = leaves-at wordpText 22 (omega arith) refl
+
+-- n = 0
+abbrev pub nzeroText : List ℕ
+nzeroText = 111 ∷ 112 ∷ 61 ∷ 120 ∷ 97 ∷ 100 ∷ 100 ∷ 32 ∷ 97 ∷ 61 ∷ 105 ∷ 109 ∷ 109 ∷ 58 ∷ 49 ∷ 32 ∷ 98 ∷ 61 ∷ 99 ∷ 101 ∷ 108 ∷ 108 ∷ 58 ∷ 50 ∷ 32 ∷ 99 ∷ 61 ∷ 102 ∷ 112 ∷ 58 ∷ 51 ∷ 32 ∷ 98 ∷ 101 ∷ 61 ∷ 48 ∷ 32 ∷ 110 ∷ 61 ∷ 48 ∷ 10 ∷ []
+
+pub n-zero : Means nzeroText (LeavesAt 39)
+unfolding parse lit seq one numberFrom number indexIn decimalValue opTail modes fromCall fromC fromB fromA lineFields listingLines
+n-zero = leaves-at nzeroText 39 (omega arith) refl
+
+-- be= left out
+abbrev pub nobeText : List ℕ
+nobeText = 111 ∷ 112 ∷ 61 ∷ 120 ∷ 109 ∷ 117 ∷ 108 ∷ 32 ∷ 97 ∷ 61 ∷ 102 ∷ 112 ∷ 58 ∷ 49 ∷ 32 ∷ 98 ∷ 61 ∷ 102 ∷ 112 ∷ 58 ∷ 50 ∷ 32 ∷ 99 ∷ 61 ∷ 99 ∷ 101 ∷ 108 ∷ 108 ∷ 58 ∷ 51 ∷ 32 ∷ 110 ∷ 61 ∷ 52 ∷ 10 ∷ []
+
+pub no-be : Means nobeText (LeavesAt 31)
+unfolding parse lit seq one numberFrom number indexIn decimalValue opTail modes fromCall fromC fromB fromA lineFields listingLines
+no-be = leaves-at nobeText 31 (omega arith) refl
+
+-- fp: for a jump's destination
+abbrev pub fpfordestinationText : List ℕ
+fpfordestinationText = 111 ∷ 112 ∷ 61 ∷ 106 ∷ 117 ∷ 109 ∷ 112 ∷ 32 ∷ 97 ∷ 61 ∷ 105 ∷ 109 ∷ 109 ∷ 58 ∷ 49 ∷ 32 ∷ 98 ∷ 61 ∷ 102 ∷ 112 ∷ 58 ∷ 50 ∷ 32 ∷ 99 ∷ 61 ∷ 102 ∷ 112 ∷ 58 ∷ 48 ∷ 10 ∷ []
+
+pub fp-for-destination : Means fpfordestinationText (LeavesAt 18)
+unfolding parse lit seq one numberFrom number indexIn decimalValue opTail modes fromCall fromC fromB fromA lineFields listingLines
+fp-for-destination = leaves-at fpfordestinationText 18 (omega arith) refl
+
+-- of an extension fp: in a alone
+abbrev pub fpaloneText : List ℕ
+fpaloneText = 111 ∷ 112 ∷ 61 ∷ 120 ∷ 97 ∷ 100 ∷ 100 ∷ 32 ∷ 97 ∷ 61 ∷ 102 ∷ 112 ∷ 58 ∷ 49 ∷ 32 ∷ 98 ∷ 61 ∷ 99 ∷ 101 ∷ 108 ∷ 108 ∷ 58 ∷ 50 ∷ 32 ∷ 99 ∷ 61 ∷ 102 ∷ 112 ∷ 58 ∷ 48 ∷ 32 ∷ 98 ∷ 101 ∷ 61 ∷ 48 ∷ 32 ∷ 110 ∷ 61 ∷ 49 ∷ 10 ∷ []
+
+pub fp-alone : Means fpaloneText (LeavesAt 17)
+unfolding parse lit seq one numberFrom number indexIn decimalValue opTail modes fromCall fromC fromB fromA lineFields listingLines
+fp-alone = leaves-at fpaloneText 17 (omega arith) refl
