@@ -1,4 +1,5 @@
-"""Edits of a definition that `run` must refuse: the edited crate is still proved, and `run`, or a crate of theorems below it, is not.
+"""Edits of a definition that its theorems must refuse: the edited crate is still proved, and `run`, for listings `listing_law`, or a crate of
+theorems below it, is not.
 
   mutate.py            tries every edit
   mutate.py CRATE..    tries the edits of the crates named, as tabler_spec
@@ -15,6 +16,7 @@ SCRATCH = ROOT / "target/mutate"
 WARM = ("rlib", "stamp", "log")  # what rt keeps of crates that are proved
 RULES = "crates/rules/specs/"
 TABLED = "crates/tabler_spec/specs/Tabled.antt"
+LISTING = "crates/listing_spec/specs/Listing.antt"
 ROOM = r"&& leb \(filled m state \(suc r\) \+ 1\) extHeight$"
 
 # name, file, what stands there (a line's start, or a piece of it), what is put there
@@ -59,7 +61,19 @@ EDITS = [
         r"exec \(execTable m state \(length exec / 32\)\)",
         "exec (execTable m state (length exec / 32 - 1))",
     ),
+    ("fp: listed as cell:", LISTING, r"^modeName Frame = .*$", "modeName Frame = 99 ∷ 101 ∷ 108 ∷ 108 ∷ 58 ∷ []"),
+    ("xadd listed as add", LISTING, r"^opText \(Extension op\.Add be n\) = .*$", "opText (Extension op.Add be n) = 97 ∷ 100 ∷ 100 ∷ []"),
+    ("be left out of a line", LISTING, r"= beKey \+\+ decimal \(bit be\) \+\+ nKey", "= nKey"),
+    ("n left out of a line", LISTING, r" \+\+ nKey \+\+ decimal n$", ""),
+    ("operand B listed for C", LISTING, r"cKey \+\+ operandText \(f \.c\)", "cKey ++ operandText (f .b)"),
+    ("no space between two fields", LISTING, r"^bKey = 32 ∷ ", "bKey = "),
+    ("no LF behind a line", LISTING, r"\n    \+\+ \(10 ∷ \[\]\)$", ""),
+    ("a program of words at or above p", "crates/listing_spec/specs/Program.antt", r"\(words 1 program (\(.*\))\) \(Size", r"\1 (Size"),
+    ("a program of numbers that are no bytes", "crates/listing_spec/specs/Program.antt", r"getD program k 0 < 256", "getD program k 0 < 257"),
 ]
+
+# the crate of theorems that must refuse an edit, by the crate that is edited; of the others it is run
+THEOREMS = {"listing_spec": "listing_law"}
 
 # what an edit needs beside it
 EXTRA = {
@@ -93,7 +107,7 @@ def rt(*words):
     return done.returncode, done.stdout
 
 
-def prepare():
+def prepare(wanted):
     shutil.rmtree(SCRATCH, ignore_errors=True)
     for kept in WARM:
         if (ROOT / "target" / kept).is_dir():
@@ -104,15 +118,18 @@ def prepare():
             name, rest = line.split(":")
             lines[name] = rest.split()
     crates = []
-    needed("run", lines, crates)
+    for theorems in sorted(wanted):
+        needed(theorems, lines, crates)
     (SCRATCH / "crates").mkdir(parents=True)
     for name in crates:
         shutil.copytree(ROOT / "crates" / name, SCRATCH / "crates" / name, ignore=shutil.ignore_patterns("must-fail"))
+    crates.sort(key=list(lines).index)
     (SCRATCH / "crates.txt").write_text("".join(f"{n}: {' '.join(lines[n])}".rstrip() + "\n" for n in crates))
-    print("proving run as it stands", flush=True)
-    code, out = rt("check", "run")
-    if code != 0:
-        sys.exit(out[-2000:] + "\nrun is not proved as it stands")
+    for theorems in sorted(wanted):
+        print(f"proving {theorems} as it stands", flush=True)
+        code, out = rt("check", theorems)
+        if code != 0:
+            sys.exit(out[-2000:] + f"\n{theorems} is not proved as it stands")
 
 
 def first_error(out):
@@ -120,6 +137,10 @@ def first_error(out):
         if ": error" in line:
             return re.sub(r"\S*/crates/", "crates/", line)[:160]
     return "no error line"
+
+
+def theorems_of(path):
+    return THEOREMS.get(pathlib.Path(path).parts[1], "run")
 
 
 def mutate(name, path, old, new):
@@ -136,9 +157,10 @@ def mutate(name, path, old, new):
         code, out = rt("check", crate)
         if code != 0:
             return False, f"{crate} itself is refused: {first_error(out)}"
-        code, out = rt("check", "run")
+        theorems = theorems_of(path)
+        code, out = rt("check", theorems)
         if code != 1:
-            return False, f"run was not refused (exit {code})"
+            return False, f"{theorems} was not refused (exit {code})"
         return True, first_error(out)
     finally:
         file.write_text(text)
@@ -148,7 +170,7 @@ def main(crates):
     edits = [edit for edit in EDITS if not crates or pathlib.Path(edit[1]).parts[1] in crates]
     if not edits:
         sys.exit("no edit of " + " ".join(crates))
-    prepare()
+    prepare({theorems_of(edit[1]) for edit in edits})
     passed = failed = 0
     for edit in edits:
         ok, why = mutate(*edit)

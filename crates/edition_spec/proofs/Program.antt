@@ -13,7 +13,7 @@ use Rattle.word.proofs.Tests.{by-test, from-true}
 use Rattle.form.specs.Instruction.{instructionAt, instructionWords}
 use Rattle.form.specs.declared.Instruction.{Instruction}
 use Rattle.form_bytes.proofs.ReadBack.{written-length, instruction-read}
-use Rattle.form_bytes.proofs.Program.{written-count, written-fits, written-words}
+use Rattle.rules.proofs.Programs.{written-count, written-fits, written-words}
 use Rattle.rules.specs.Sizes.{programFits}
 use Rattle.rules.specs.Satisfies.{Words}
 use Rattle.edition_machine.specs.Encoding.{encodedAt}

@@ -24,7 +24,7 @@ use Rattle.rows.specs.Rows.{bytesOfWords}
 use Rattle.rows.proofs.RowLaws.{Below}
 use Rattle.form_bytes.proofs.ReadBack.{written, written-length, instruction-read}
 use Rattle.form_bytes.proofs.Rewritten.{rewritten}
-use Rattle.form_bytes.proofs.Program.{written-fits, written-words, read-words}
+use Rattle.rules.proofs.Programs.{written-fits, written-words, read-words}
 use Rattle.answer.specs.declared.Answer.the-variants.{Accepted}
 use Rattle.text_patterns.specs.Pattern.{Each, flat}
 use Rattle.listing_spec.specs.Listing.{formLine, decodedLine, instructionLine, listingOf}

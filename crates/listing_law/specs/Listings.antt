@@ -3,7 +3,7 @@
 -- bytes needed, output unchanged. SIZE, WORD, INSTRUCTION come before both, as they apply."
 -- `listingOf` is a program's listing, byte for byte; `listed` and `listedIn` are what `listing_writer::list` promises,
 -- and `Assembles` what `listing_reader::read_listing` does, over what a text means (listing_spec).
--- Declared in src/: Transcribed (listing_spec).
+-- Declared in src/: Answer (answer); Transcribed (listing_spec).
 use Prim.Native.Nat.{ℕ, _≤_, _<_}
 use mathlib.Core.Bool.{false}
 use mathlib.Core.List.{List, _++_}

@@ -1,7 +1,6 @@
 -- Inner: a line's fields, each behind the one before it, as the reader goes, and lines one after the other. The promise
 -- (listing_spec, specs/Reading) knows nothing of this.
--- Declared in src/: Op, Mode, Operand, Kind, Form (form); Cursor (text_fields); Span (listing_forms);
--- FormRead (here).
+-- Declared in src/: Operand, Kind, Form (form); Cursor (text_fields); Span (listing_forms); FormRead (here).
 use Prim.Native.Nat.{ℕ, _-_, _≤_}
 use mathlib.Core.Bool.{true, false, cond}
 use mathlib.Core.List.{List, [], _∷_}

@@ -106,7 +106,7 @@ fn read_call(
     }
 }
 
-// The fields of a line, each read behind the one before it; the form means nothing where the text leaves every valid one.
+// A line's fields, each read behind the one before it; the form means nothing where the text leaves every valid line.
 fn read_fields(text: &[u8], from: usize) -> FormRead
     requires { ⌜ from ≤ length (now text) ⌝ }
     ensures { λ r. ⌜ LineRead (now (text .entry)) from r ⌝ }

@@ -1,4 +1,4 @@
--- Documents 01, "Verdicts", and 02, M-105: SIZE, WORD and INSTRUCTION as they apply to a program by itself.
+-- Document 01, "Verdicts", and document 02, M-105: SIZE, WORD and INSTRUCTION as they apply to a program by itself.
 -- Declared in src/: Answer (answer).
 use Prim.Native.Nat.{ℕ, _<_}
 use mathlib.Core.Bool.{cond}

@@ -1,6 +1,6 @@
--- Document 02, M-105, for C: what a call on listings returns, and what it leaves in `written` and `answer`. ANSWER comes
--- first, for each buffer of fixed length, and writes nothing.
--- Declared in src/: Transcribed (listing_spec).
+-- Document 02, M-105, for C: what a call on listings returns, and what it leaves in `written` and `answer`. ANSWER
+-- comes first, for each buffer of fixed length, and writes nothing.
+-- Declared in src/: Answer (answer); Transcribed (listing_spec).
 use Prim.Native.Nat.{ℕ}
 use mathlib.Core.Bool.{Bool, cond, _&&_}
 use mathlib.Core.List.{List}
