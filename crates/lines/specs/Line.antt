@@ -23,11 +23,11 @@ abbrev pub line : List ℕ → List ℕ
 line w = w ++ (10 ∷ [])
 
 -- a name, a number and the byte that ends it
-abbrev pub ended : List ℕ → ℕ → ℕ → List ℕ
-ended name number end = name ++ (decimal number ++ (end ∷ []))
+abbrev pub numbered : List ℕ → ℕ → ℕ → List ℕ
+numbered name number end = name ++ (decimal number ++ (end ∷ []))
 
 abbrev pub lineOf : List ℕ → ℕ → List ℕ
-lineOf name number = ended name number 10
+lineOf name number = numbered name number 10
 
 -- inner: a buffer with other bytes from a byte on
 abbrev pub over : List ℕ → ℕ → List ℕ → List ℕ

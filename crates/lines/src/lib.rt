@@ -6,7 +6,7 @@ use decimal::ended_digits;
 ghost use mathlib.Core.Path.{_≡_};
 ghost use Prim.Native.Nat.{_+_, _≤_};
 ghost use lib.ListN.{length};
-ghost use Rattle.lines.specs.Line.{over, ended, lineOf};
+ghost use Rattle.lines.specs.Line.{over, numbered, lineOf};
 
 // The digits of a number and the byte that ends it, the bytes of a text from a byte on.
 pub struct Digits {
@@ -29,10 +29,10 @@ pub fn put(bytes: &[u8], at: usize, out: &mut [u8]) -> usize
 
 // A name, a number and the byte that ends it, from a byte of the buffer on, and where they end.
 pub fn put_number(name: &[u8], number: u64, end: u8, at: usize, out: &mut [u8]) -> usize
-    requires { ⌜ at + length (ended (now name) number end) ≤ length (now out) ⌝ }
+    requires { ⌜ at + length (numbered (now name) number end) ≤ length (now out) ⌝ }
     ensures { λ r. ⌜
-        (r ≡ at + length (ended (now (name .entry)) number end))
-        × (now (out .exit) ≡ over (now (out .entry)) at (ended (now (name .entry)) number end))
+        (r ≡ at + length (numbered (now (name .entry)) number end))
+        × (now (out .exit) ≡ over (now (out .entry)) at (numbered (now (name .entry)) number end))
         ⌝ }
 {
     let digits = ended_digits(number, end);

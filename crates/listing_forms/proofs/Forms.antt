@@ -23,7 +23,7 @@ use Rattle.form.specs.declared.Decoded.the-variants.{Well}
 use Rattle.form.proofs.DataLaws.{parts, written, reads}
 use Rattle.form.proofs.Forms.{Flags, Opcode, Plain, Words, Formed, formed-of, decodes as kind-decodes}
 use Rattle.listing_forms.specs.Ranges.{kindNumber, modeNumber, range, aRange, bRange, cRange}
-use Rattle.listing_forms.specs.Forms.{InRange, CallFits, Listable, immediateFlag, frameFlag, mulWord, jumpWord, auxWord, callWord, instructionOf}
+use Rattle.listing_forms.specs.Forms.{InRange, CallFits, Listable, immediateFlag, frameFlag, mulWord, jumpWord, auxWord, callWord, formInstruction}
 
 -- DATA is below 32·(N + 1)
 pub call-below : (k : Kind) → CallFits k → callWord k < p
@@ -94,16 +94,16 @@ module _ (f : Form) (l : Listable f) where
       by-kind Jump a b r s = follows a b .0 s
       by-kind (Extension op be n) a b r s = follows a b .0 s
 
-  its-flags : Flags (instructionOf f)
-  unfolding instructionOf
+  its-flags : Flags (formInstruction f)
+  unfolding formInstruction
   its-flags = record { a = flagged (f .a .mode) .one; b = rw (← same-frame) (flagged (f .b .mode) .one); c = flagged (f .c .mode) .one }
 
-  its-words : Words (instructionOf f) (f .kind)
-  unfolding instructionOf
+  its-words : Words (formInstruction f) (f .kind)
+  unfolding formInstruction
   its-words = by-kind (f .kind) (l .a-mode) (l .b-mode) (l .c-mode) (l .call)
     where
       with-kind : Kind → Instruction
-      with-kind k = instructionOf (record { kind = k; a = f .a; b = f .b; c = f .c })
+      with-kind k = formInstruction (record { kind = k; a = f .a; b = f .b; c = f .c })
 
       opcode : (k : Kind) → Opcode (with-kind k) (mulWord k) (jumpWord k) (auxWord k)
       opcode k = record { mul-is = refl; jump-is = refl; aux-is = refl }
@@ -126,16 +126,16 @@ module _ (f : Form) (l : Listable f) where
   b-back : operandOf (immediateFlag (f .b .mode)) (frameFlag (f .a .mode)) (f .b .word) ≡ f .b
   b-back = rw (← same-frame) (operand-back (f .b))
 
-  pub decodes : decodeOf (instructionOf f) ≡ Well f
-  unfolding instructionOf
+  pub decodes : decodeOf (formInstruction f) ≡ Well f
+  unfolding formInstruction
   decodes =
-      kind-decodes (instructionOf f) (f .kind) (flags-fit (instructionOf f) its-flags) its-words
+      kind-decodes (formInstruction f) (f .kind) (flags-fit (formInstruction f) its-flags) its-words
       ∙ (λ j. Well (record { kind = f .kind; a = operand-back (f .a) j; b = b-back j; c = operand-back (f .c) j }))
 
-  pub words-small : (k : ℕ) → getD (instructionWords (instructionOf f)) k 0 < p
-  unfolding instructionOf
+  pub words-small : (k : ℕ) → getD (instructionWords (formInstruction f)) k 0 < p
+  unfolding formInstruction
   words-small =
-      each-below (instructionWords (instructionOf f))
+      each-below (instructionWords (formInstruction f))
       (omega (arith, opcode-small (f .kind), call-below (f .kind) (l .call), flagged (f .a .mode), flagged (f .b .mode), flagged (f .c .mode)))
 
 -- the mode of two flags, of which one at most is 1, has these flags
@@ -185,8 +185,8 @@ module _ (i : Instruction) (f : Form) (is : Formed i f) where
   modes Jump (o, plain, fc) = (a-plain plain, b-follows, omega (arith, flagged (f .c .mode), c-flags))
   modes (Extension op be n) w = (omega (arith, flagged (f .a .mode)), b-follows, c-any)
 
-  its-instruction : instructionOf f ≡ i
-  unfolding instructionOf
+  its-instruction : formInstruction f ≡ i
+  unfolding formInstruction
   its-instruction j =
       let (o, call, fits) = its-opcode (f .kind) (is .words) in
       record {
@@ -205,7 +205,7 @@ module _ (i : Instruction) (f : Form) (is : Formed i f) where
       }
 
 -- an instruction of words that decodes is that of a form which a line can say
-pub decoded : (i : Instruction) (f : Form) → ((k : ℕ) → getD (instructionWords i) k 0 < p) → decodeOf i ≡ Well f → Listable f × (instructionOf f ≡ i)
+pub decoded : (i : Instruction) (f : Form) → ((k : ℕ) → getD (instructionWords i) k 0 < p) → decodeOf i ≡ Well f → Listable f × (formInstruction f ≡ i)
 decoded i f small e =
     let is = formed-of i f e in
     let ranges = modes i f is (f .kind) (is .words) in (

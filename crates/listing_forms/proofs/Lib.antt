@@ -1,3 +1,2 @@
 pub mod Forms
-pub mod ProgramTests
 pub mod Programs

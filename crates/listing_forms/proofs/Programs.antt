@@ -25,13 +25,11 @@ use Rattle.rows.proofs.RowLaws.{Below}
 use Rattle.form_bytes.proofs.ReadBack.{written, written-length, instruction-read}
 use Rattle.form_bytes.proofs.Rewritten.{rewritten}
 use Rattle.rules.proofs.Programs.{written-fits, written-words, read-words}
-use Rattle.answer.specs.declared.Answer.the-variants.{Accepted}
 use Rattle.text_patterns.specs.Pattern.{Each, flat}
 use Rattle.listing_spec.specs.Listing.{formLine, decodedLine, instructionLine, listingOf}
 use Rattle.listing_spec.specs.Program.{WellFormedProgram}
-use Rattle.listing_forms.specs.Forms.{Listable, instructionOf, formBytes, programOf}
+use Rattle.listing_forms.specs.Forms.{Listable, formInstruction, formBytes, programOf}
 use Rattle.listing_forms.proofs.Forms.{decodes, words-small, decoded}
-use Rattle.listing_forms.proofs.ProgramTests.{Passed, passes, passed-by}
 
 -- what is below a bound stays so behind what is
 below-append : {n : ℕ} (xs ys : List ℕ) → Below n xs → Below n ys → Below n (xs ++ ys)
@@ -78,7 +76,7 @@ blank : Form
 blank = let zero-word : Operand = record { mode = Immediate; word = 0 } in record { kind = Add; a = zero-word; b = zero-word; c = zero-word }
 
 abbrev part : List Form → ℕ → Instruction
-part fs k = instructionOf (getD fs k blank)
+part fs k = formInstruction (getD fs k blank)
 
 as-written : (fs : List Form) → programOf fs ≡ written (part fs) (length fs)
 as-written = flat-parts blank formBytes
@@ -114,21 +112,18 @@ bytes-below (w ∷ ws) = below-append (bytesOf w) (bytesOfWords ws) (each-below 
 program-bytes : (fs : List Form) → Below 256 (programOf fs)
 unfolding flat
 program-bytes [] = λ k. lit< tt
-program-bytes (f ∷ fs) = below-append (formBytes f) (programOf fs) (bytes-below (instructionWords (instructionOf f))) (program-bytes fs)
+program-bytes (f ∷ fs) = below-append (formBytes f) (programOf fs) (bytes-below (instructionWords (formInstruction f))) (program-bytes fs)
 
 pub well-formed : (fs : List Form) → 1 ≤ length fs → length fs ≤ 2 ^ 20 → Each Listable fs → WellFormedProgram (programOf fs)
-well-formed fs least most each = record { bytes = program-bytes fs; passes = passes (programOf fs) passed Accepted }
-  where
-    passed : Passed (programOf fs)
-    passed =
-        record {
-          fits = rw (as-written fs) (written-fits (part fs) (length fs) least most);
-          words = rw (as-written fs) (written-words (part fs) (length fs) (λ k h. words-small (getD fs k blank) (listable fs each k h)));
-          formed = λ k h. from-true _ (ap isWell (read-back fs each k (omega (arith, program-long fs))));
-        }
+well-formed fs least most each = record {
+  bytes = program-bytes fs;
+  fits = rw (as-written fs) (written-fits (part fs) (length fs) least most);
+  words = rw (as-written fs) (written-words (part fs) (length fs) (λ k h. words-small (getD fs k blank) (listable fs each k h)));
+  formed = λ k h. from-true _ (ap isWell (read-back fs each k (omega (arith, program-long fs))));
+}
 
 -- a program by its instructions' forms
-collected : (part : ℕ → Instruction) (n : ℕ) → ((k : ℕ) → k < n → (f : Form) × Listable f × (instructionOf f ≡ part k))
+collected : (part : ℕ → Instruction) (n : ℕ) → ((k : ℕ) → k < n → (f : Form) × Listable f × (formInstruction f ≡ part k))
     → (fs : List Form) × (length fs ≡ n) × Each Listable fs × (programOf fs ≡ written part n)
 unfolding flat concatenated
 collected part zero forms = ([], refl, tt, refl)
@@ -143,10 +138,9 @@ collected part (suc n) forms =
 
 pub of-forms : (P : List ℕ) → WellFormedProgram P → (fs : List Form) × (1 ≤ length fs) × (length fs ≤ 2 ^ 20) × Each Listable fs × (programOf fs ≡ P)
 of-forms P w =
-    let passed = passed-by P (w .passes) in
-    let (whole, (least, most)) = each (eqb (length P % 48) 0) (leb 1 (length P / 48) ∷ leb (length P / 48) (2 ^ 20) ∷ []) (passed .fits) in
+    let (whole, (least, most)) = each (eqb (length P % 48) 0) (leb 1 (length P / 48) ∷ leb (length P / 48) (2 ^ 20) ∷ []) (w .fits) in
     let exact : 48 * (length P / 48) ≡ length P = omega (arith, eqb-true (length P % 48) 0 whole) in
-    let (fs, long, all, program) = collected (λ k. instructionAt P (48 * k)) (length P / 48) (form-at passed) in (
+    let (fs, long, all, program) = collected (λ k. instructionAt P (48 * k)) (length P / 48) form-at in (
       fs,
       omega (arith, leb-true 1 (length P / 48) least),
       omega (arith, leb-true (length P / 48) (2 ^ 20) most),
@@ -154,8 +148,8 @@ of-forms P w =
       program ∙ rewritten P (w .bytes) (length P / 48) exact,
     )
   where
-    form-at : Passed P → (k : ℕ) → k < length P / 48 → (f : Form) × Listable f × (instructionOf f ≡ instructionAt P (48 * k))
-    form-at passed k h =
-        let (f, e) = well (instructionAt P (48 * k)) (is-true _ (passed .formed k h)) in
-        let (listable, same) = decoded (instructionAt P (48 * k)) f (read-words P (passed .words) k (omega arith)) e in
+    form-at : (k : ℕ) → k < length P / 48 → (f : Form) × Listable f × (formInstruction f ≡ instructionAt P (48 * k))
+    form-at k h =
+        let (f, e) = well (instructionAt P (48 * k)) (is-true _ (w .formed k h)) in
+        let (listable, same) = decoded (instructionAt P (48 * k)) f (read-words P (w .words) k (omega arith)) e in
         (f, listable, same)

@@ -1,7 +1,8 @@
 -- Inner: the forms that a line can have, and the instruction and the bytes of each.
 -- Declared in src/: Instruction, Mode, Kind, Form (form); Span (here).
-use Prim.Native.Nat.{ℕ, _^_, _≤_}
+use Prim.Native.Nat.{ℕ, _-_, _^_, _≤_}
 use mathlib.Core.List.{List}
+use Rattle.word.specs.Word.{p}
 use Rattle.form.specs.Data.{dataWord}
 use Rattle.form.specs.Instruction.{instructionWords}
 use Rattle.form.specs.declared.Instruction.{Instruction}
@@ -15,9 +16,9 @@ use Rattle.text_patterns.specs.Pattern.{flat}
 use Rattle.listing_forms.specs.Ranges.{kindNumber, modeNumber, aRange, bRange, cRange}
 use Rattle.listing_forms.specs.declared.Span.{Span}
 
--- the greatest word, p - 1
+-- the greatest word
 abbrev pub greatest : ℕ
-greatest = 2130706432
+greatest = p - 1
 
 abbrev pub InRange : Span → Mode → Type 0
 InRange r m = (r .low ≤ modeNumber m) × (modeNumber m ≤ r .high)
@@ -81,8 +82,8 @@ callWord Deref = 0
 callWord Jump = 0
 
 -- the instruction of a form; A and B share one fp flag
-unfoldable pub instructionOf : Form → Instruction
-instructionOf f =
+unfoldable pub formInstruction : Form → Instruction
+formInstruction f =
     record {
       a = f .a .word;
       b = f .b .word;
@@ -100,7 +101,7 @@ instructionOf f =
 
 -- its 48 bytes, and the program of some forms
 abbrev pub formBytes : Form → List ℕ
-formBytes f = bytesOfWords (instructionWords (instructionOf f))
+formBytes f = bytesOfWords (instructionWords (formInstruction f))
 
 abbrev pub programOf : List Form → List ℕ
 programOf forms = flat formBytes forms

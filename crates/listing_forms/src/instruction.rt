@@ -5,7 +5,7 @@ use form::Kind;
 use form::Mode;
 use form::data_word;
 ghost use mathlib.Core.Path.{_≡_};
-ghost use Rattle.listing_forms.specs.Forms.{CallFits, immediateFlag, frameFlag, mulWord, jumpWord, auxWord, callWord, instructionOf};
+ghost use Rattle.listing_forms.specs.Forms.{CallFits, immediateFlag, frameFlag, mulWord, jumpWord, auxWord, callWord, formInstruction};
 
 fn immediate_flag(mode: Mode) -> u32
     ensures { λ r. ⌜ r ≡ immediateFlag mode ⌝ }
@@ -78,9 +78,9 @@ fn call_word(kind: Kind) -> u32
 }
 
 // The instruction of a form; A and B share one fp flag.
-pub fn instruction_of(f: Form) -> Instruction
+pub fn form_instruction(f: Form) -> Instruction
     requires { ⌜ CallFits (f .kind) ⌝ }
-    ensures { λ r. ⌜ r ≡ instructionOf f ⌝ }
+    ensures { λ r. ⌜ r ≡ formInstruction f ⌝ }
 {
     let kind = f.kind;
     let a = f.a;

@@ -3,7 +3,7 @@ mod instruction;
 
 use form::Mode;
 use form::Op;
-pub use instruction::instruction_of;
+pub use instruction::form_instruction;
 ghost use mathlib.Core.Path.{_≡_};
 ghost use Rattle.listing_forms.specs.Ranges.{modeOf, opOf, aRange, bRange, cRange};
 
@@ -67,8 +67,7 @@ pub fn b_range(kind: u64, a: u64) -> Span
     if a == 2 {
         return range(2, 2);
     }
-    let last = 1; // fp stands beside fp alone
-    range(0, last)
+    range(0, 1) // fp stands beside fp alone
 }
 
 pub fn c_range(kind: u64) -> Span

@@ -1,11 +1,11 @@
 -- Lines and places byte for byte.
 -- Assumes nothing.
-use Prim.Native.Nat.{ℕ, _-_, _≤_}
+use Prim.Native.Nat.{ℕ, _≤_}
 use mathlib.Core.Bool.{true}
 use mathlib.Core.List.{List, [], _∷_}
-use mathlib.Core.Path.{_≡_, refl, ap, subst, _∙_}
+use mathlib.Core.Path.{_≡_, refl, sym, ap, subst, _∙_}
 use native.Mathlib.Omega.{arith}
-use lib.ListN.{length, drop, length-drop}
+use lib.ListN.{length, drop}
 use Rattle.form.specs.declared.Op.the-variants as op
 use Rattle.form.specs.declared.Mode.{Mode}
 use Rattle.form.specs.declared.Mode.the-variants.{Immediate, Cell, Frame}
@@ -17,8 +17,9 @@ use Rattle.lines.specs.Line.{decimalIn}
 use Rattle.text_patterns.specs.Pattern.{lit, seq, left, parse}
 use Rattle.text_patterns.specs.Fields.{one, numberFrom, number}
 use Rattle.text_fields.specs.Digit.{decimalValue, indexIn}
+use Rattle.text_fields.proofs.Standing.{place-left}
 use Rattle.listing_spec.specs.Listing.{formLine}
-use Rattle.listing_spec.specs.Reading.{Sense, LeavesAt, Means}
+use Rattle.listing_spec.specs.Reading.{LeavesAt, Means}
 use Rattle.listing_line.specs.Line.{opTail, modes, fromCall, fromC, fromB, fromA, lineFields, listingLines}
 use Rattle.listing_law.proofs.Senses.{senseOf, means}
 
@@ -41,54 +42,46 @@ unfolding formLine decimalIn
 line-of-xpeq = refl
 
 leaves-at : (text : List ℕ) (k : ℕ) → k ≤ length text → parse listingLines text ≡ left (drop k text) → Means text (LeavesAt k)
-leaves-at text k h e =
-    let place : length text - length (drop k text) ≡ k = omega (arith, length-drop k text) in
-    subst (Means text) (ap (senseOf text) e ∙ ap LeavesAt place) (means text)
+leaves-at text k h e = subst (Means text) (ap (senseOf text) e ∙ ap LeavesAt (sym (place-left text k h))) (means text)
 
 -- a leading zero: nothing follows it
-abbrev pub leadingzeroText : List ℕ
-leadingzeroText = 111 ∷ 112 ∷ 61 ∷ 97 ∷ 100 ∷ 100 ∷ 32 ∷ 97 ∷ 61 ∷ 99 ∷ 101 ∷ 108 ∷ 108 ∷ 58 ∷ 48 ∷ 49 ∷ 32 ∷ 98 ∷ 61 ∷ 105 ∷ 109 ∷ 109 ∷ 58 ∷ 50 ∷ 32 ∷ 99 ∷ 61 ∷ 102 ∷ 112 ∷ 58 ∷ 51 ∷ 10 ∷ []
-
-pub leading-zero : Means leadingzeroText (LeavesAt 15)
-unfolding parse lit seq one numberFrom number indexIn decimalValue opTail modes fromCall fromC fromB fromA lineFields listingLines
-leading-zero = leaves-at leadingzeroText 15 (omega arith) refl
+abbrev pub zeroLeads : List ℕ
+zeroLeads = 111 ∷ 112 ∷ 61 ∷ 97 ∷ 100 ∷ 100 ∷ 32 ∷ 97 ∷ 61 ∷ 99 ∷ 101 ∷ 108 ∷ 108 ∷ 58 ∷ 48 ∷ 49 ∷ 32 ∷ 98 ∷ 61 ∷ 105 ∷ 109 ∷ 109 ∷ 58 ∷ 50 ∷ 32 ∷ 99 ∷ 61 ∷ 102 ∷ 112 ∷ 58 ∷ 51 ∷ 10 ∷ []
 
 -- p: its last digit is the first that does not fit
-abbrev pub wordpText : List ℕ
-wordpText = 111 ∷ 112 ∷ 61 ∷ 109 ∷ 117 ∷ 108 ∷ 32 ∷ 97 ∷ 61 ∷ 105 ∷ 109 ∷ 109 ∷ 58 ∷ 50 ∷ 49 ∷ 51 ∷ 48 ∷ 55 ∷ 48 ∷ 54 ∷ 52 ∷ 51 ∷ 51 ∷ 32 ∷ 98 ∷ 61 ∷ 99 ∷ 101 ∷ 108 ∷ 108 ∷ 58 ∷ 48 ∷ 32 ∷ 99 ∷ 61 ∷ 99 ∷ 101 ∷ 108 ∷ 108 ∷ 58 ∷ 48 ∷ 10 ∷ []
-
-pub word-p : Means wordpText (LeavesAt 22)
-unfolding parse lit seq one numberFrom number indexIn decimalValue opTail modes fromCall fromC fromB fromA lineFields listingLines
-word-p = leaves-at wordpText 22 (omega arith) refl
+abbrev pub wordP : List ℕ
+wordP = 111 ∷ 112 ∷ 61 ∷ 109 ∷ 117 ∷ 108 ∷ 32 ∷ 97 ∷ 61 ∷ 105 ∷ 109 ∷ 109 ∷ 58 ∷ 50 ∷ 49 ∷ 51 ∷ 48 ∷ 55 ∷ 48 ∷ 54 ∷ 52 ∷ 51 ∷ 51 ∷ 32 ∷ 98 ∷ 61 ∷ 99 ∷ 101 ∷ 108 ∷ 108 ∷ 58 ∷ 48 ∷ 32 ∷ 99 ∷ 61 ∷ 99 ∷ 101 ∷ 108 ∷ 108 ∷ 58 ∷ 48 ∷ 10 ∷ []
 
 -- n = 0
-abbrev pub nzeroText : List ℕ
-nzeroText = 111 ∷ 112 ∷ 61 ∷ 120 ∷ 97 ∷ 100 ∷ 100 ∷ 32 ∷ 97 ∷ 61 ∷ 105 ∷ 109 ∷ 109 ∷ 58 ∷ 49 ∷ 32 ∷ 98 ∷ 61 ∷ 99 ∷ 101 ∷ 108 ∷ 108 ∷ 58 ∷ 50 ∷ 32 ∷ 99 ∷ 61 ∷ 102 ∷ 112 ∷ 58 ∷ 51 ∷ 32 ∷ 98 ∷ 101 ∷ 61 ∷ 48 ∷ 32 ∷ 110 ∷ 61 ∷ 48 ∷ 10 ∷ []
-
-pub n-zero : Means nzeroText (LeavesAt 39)
-unfolding parse lit seq one numberFrom number indexIn decimalValue opTail modes fromCall fromC fromB fromA lineFields listingLines
-n-zero = leaves-at nzeroText 39 (omega arith) refl
+abbrev pub nZero : List ℕ
+nZero = 111 ∷ 112 ∷ 61 ∷ 120 ∷ 97 ∷ 100 ∷ 100 ∷ 32 ∷ 97 ∷ 61 ∷ 105 ∷ 109 ∷ 109 ∷ 58 ∷ 49 ∷ 32 ∷ 98 ∷ 61 ∷ 99 ∷ 101 ∷ 108 ∷ 108 ∷ 58 ∷ 50 ∷ 32 ∷ 99 ∷ 61 ∷ 102 ∷ 112 ∷ 58 ∷ 51 ∷ 32 ∷ 98 ∷ 101 ∷ 61 ∷ 48 ∷ 32 ∷ 110 ∷ 61 ∷ 48 ∷ 10 ∷ []
 
 -- be= left out
-abbrev pub nobeText : List ℕ
-nobeText = 111 ∷ 112 ∷ 61 ∷ 120 ∷ 109 ∷ 117 ∷ 108 ∷ 32 ∷ 97 ∷ 61 ∷ 102 ∷ 112 ∷ 58 ∷ 49 ∷ 32 ∷ 98 ∷ 61 ∷ 102 ∷ 112 ∷ 58 ∷ 50 ∷ 32 ∷ 99 ∷ 61 ∷ 99 ∷ 101 ∷ 108 ∷ 108 ∷ 58 ∷ 51 ∷ 32 ∷ 110 ∷ 61 ∷ 52 ∷ 10 ∷ []
-
-pub no-be : Means nobeText (LeavesAt 31)
-unfolding parse lit seq one numberFrom number indexIn decimalValue opTail modes fromCall fromC fromB fromA lineFields listingLines
-no-be = leaves-at nobeText 31 (omega arith) refl
+abbrev pub noBe : List ℕ
+noBe = 111 ∷ 112 ∷ 61 ∷ 120 ∷ 109 ∷ 117 ∷ 108 ∷ 32 ∷ 97 ∷ 61 ∷ 102 ∷ 112 ∷ 58 ∷ 49 ∷ 32 ∷ 98 ∷ 61 ∷ 102 ∷ 112 ∷ 58 ∷ 50 ∷ 32 ∷ 99 ∷ 61 ∷ 99 ∷ 101 ∷ 108 ∷ 108 ∷ 58 ∷ 51 ∷ 32 ∷ 110 ∷ 61 ∷ 52 ∷ 10 ∷ []
 
 -- fp: for a jump's destination
-abbrev pub fpfordestinationText : List ℕ
-fpfordestinationText = 111 ∷ 112 ∷ 61 ∷ 106 ∷ 117 ∷ 109 ∷ 112 ∷ 32 ∷ 97 ∷ 61 ∷ 105 ∷ 109 ∷ 109 ∷ 58 ∷ 49 ∷ 32 ∷ 98 ∷ 61 ∷ 102 ∷ 112 ∷ 58 ∷ 50 ∷ 32 ∷ 99 ∷ 61 ∷ 102 ∷ 112 ∷ 58 ∷ 48 ∷ 10 ∷ []
-
-pub fp-for-destination : Means fpfordestinationText (LeavesAt 18)
-unfolding parse lit seq one numberFrom number indexIn decimalValue opTail modes fromCall fromC fromB fromA lineFields listingLines
-fp-for-destination = leaves-at fpfordestinationText 18 (omega arith) refl
+abbrev pub fpForDestination : List ℕ
+fpForDestination = 111 ∷ 112 ∷ 61 ∷ 106 ∷ 117 ∷ 109 ∷ 112 ∷ 32 ∷ 97 ∷ 61 ∷ 105 ∷ 109 ∷ 109 ∷ 58 ∷ 49 ∷ 32 ∷ 98 ∷ 61 ∷ 102 ∷ 112 ∷ 58 ∷ 50 ∷ 32 ∷ 99 ∷ 61 ∷ 102 ∷ 112 ∷ 58 ∷ 48 ∷ 10 ∷ []
 
 -- of an extension fp: in a alone
-abbrev pub fpaloneText : List ℕ
-fpaloneText = 111 ∷ 112 ∷ 61 ∷ 120 ∷ 97 ∷ 100 ∷ 100 ∷ 32 ∷ 97 ∷ 61 ∷ 102 ∷ 112 ∷ 58 ∷ 49 ∷ 32 ∷ 98 ∷ 61 ∷ 99 ∷ 101 ∷ 108 ∷ 108 ∷ 58 ∷ 50 ∷ 32 ∷ 99 ∷ 61 ∷ 102 ∷ 112 ∷ 58 ∷ 48 ∷ 32 ∷ 98 ∷ 101 ∷ 61 ∷ 48 ∷ 32 ∷ 110 ∷ 61 ∷ 49 ∷ 10 ∷ []
+abbrev pub fpInOne : List ℕ
+fpInOne = 111 ∷ 112 ∷ 61 ∷ 120 ∷ 97 ∷ 100 ∷ 100 ∷ 32 ∷ 97 ∷ 61 ∷ 102 ∷ 112 ∷ 58 ∷ 49 ∷ 32 ∷ 98 ∷ 61 ∷ 99 ∷ 101 ∷ 108 ∷ 108 ∷ 58 ∷ 50 ∷ 32 ∷ 99 ∷ 61 ∷ 102 ∷ 112 ∷ 58 ∷ 48 ∷ 32 ∷ 98 ∷ 101 ∷ 61 ∷ 48 ∷ 32 ∷ 110 ∷ 61 ∷ 49 ∷ 10 ∷ []
 
-pub fp-alone : Means fpaloneText (LeavesAt 17)
+-- where each leaves every valid listing
+pub marked-places :
+    Means zeroLeads (LeavesAt 15)
+    × Means wordP (LeavesAt 22)
+    × Means nZero (LeavesAt 39)
+    × Means noBe (LeavesAt 31)
+    × Means fpForDestination (LeavesAt 18)
+    × Means fpInOne (LeavesAt 17)
 unfolding parse lit seq one numberFrom number indexIn decimalValue opTail modes fromCall fromC fromB fromA lineFields listingLines
-fp-alone = leaves-at fpaloneText 17 (omega arith) refl
+marked-places = (
+  leaves-at zeroLeads 15 (omega arith) refl,
+  leaves-at wordP 22 (omega arith) refl,
+  leaves-at nZero 39 (omega arith) refl,
+  leaves-at noBe 31 (omega arith) refl,
+  leaves-at fpForDestination 18 (omega arith) refl,
+  leaves-at fpInOne 17 (omega arith) refl,
+)

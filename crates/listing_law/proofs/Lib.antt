@@ -1,3 +1,4 @@
+pub mod ProgramTests
 pub mod Senses
 pub mod Length
 pub mod Listings

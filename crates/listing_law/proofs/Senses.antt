@@ -1,10 +1,9 @@
 -- A text is the listing of one program, or leaves all listings at one place; the lines' pattern tells which.
 -- Assumes nothing.
-use Prim.Native.Nat.{ℕ, _-_, _*_, _^_, _≤_}
-use mathlib.Core.Bool.{true}
+use Prim.Native.Nat.{ℕ, _-_, _^_, _≤_}
 use mathlib.Core.List.{List, [], _∷_}
 use mathlib.Core.Logic.{_↔_}
-use mathlib.Core.Path.{_≡_, refl, sym, ap, ap₂, subst, _∙_}
+use mathlib.Core.Path.{_≡_, sym, ap, subst, _∙_}
 use lib.ListN.{length}
 use Rattle.form.specs.declared.Form.{Form}
 use Rattle.text_patterns.specs.Place.{Place}

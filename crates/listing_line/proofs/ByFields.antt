@@ -3,7 +3,7 @@
 use Prim.Native.Nat.{ℕ, _≤_}
 use mathlib.Core.Bool.{true, false, cond}
 use mathlib.Core.List.{List, [], _∷_}
-use mathlib.Core.Path.{_≡_, refl, ap, _∙_}
+use mathlib.Core.Path.{_≡_, ap, _∙_}
 use native.Mathlib.Omega.{arith}
 use lib.Dec.{eqb}
 use lib.ListN.{length, drop}
@@ -11,7 +11,7 @@ use borrow.Author.Tests.{eq-eqb}
 use Rattle.word.proofs.Tests.{cases}
 use Rattle.form.specs.declared.Operand.{Operand}
 use Rattle.form.specs.declared.Form.{Form}
-use Rattle.text_patterns.specs.Pattern.{Pattern, done, lit, seq, Spelling, got, left, parse}
+use Rattle.text_patterns.specs.Pattern.{Pattern, done, lit, seq, got, left, parse}
 use Rattle.text_patterns.specs.Fields.{one, number}
 use Rattle.text_fields.specs.Digit.{decimalValue, indexIn}
 use Rattle.text_fields.specs.Field.{cursorAt, readBehind}

@@ -3,13 +3,13 @@
 use Prim.Native.Nat.{ℕ, zero, suc, _≤_, _<_}
 use mathlib.Core.Bool.{Bool, true, false, cond}
 use mathlib.Core.List.{List, [], _∷_, _++_}
-use mathlib.Core.Path.{_≡_, refl, sym, ap, _∙_}
+use mathlib.Core.Path.{_≡_, refl, sym, ap}
 use native.Mathlib.Omega.{arith}
 use lib.Dec.{eqb}
-use lib.ListN.{length, getD}
+use lib.ListN.{getD}
 use Rattle.word.proofs.Tests.{cases}
 use Rattle.lines.specs.Line.{digit}
-use Rattle.text_patterns.specs.Pattern.{Pattern, done, lit, seq, Spelling}
+use Rattle.text_patterns.specs.Pattern.{done, lit, seq, Spelling}
 use Rattle.text_patterns.specs.Fields.{Digits, one, numeral, number}
 use Rattle.text_patterns.proofs.Joined.{spelling-as, spelling-done, spelling-seq, spelling-lit}
 use Rattle.text_patterns.proofs.Digits.{spelling-one}

@@ -1,25 +1,22 @@
--- A line's pattern spells the lines of the forms that can be listed, and nothing else; and so do lines one after the
--- other.
+-- A line's fields, one behind the other: what each part of its pattern spells, from operand c back to the whole.
 -- Assumes nothing.
-use Prim.Native.Nat.{ℕ, _^_, _≤_, _<_}
-use mathlib.Core.Bool.{Bool, true, false, cond}
-use mathlib.Core.List.{List, [], _∷_, _++_, append-assoc, append-nil}
-use mathlib.Core.Path.{_≡_, refl, sym, ap, ap₂, subst, _∙_}
+use Prim.Native.Nat.{ℕ, _≤_}
+use mathlib.Core.Bool.{Bool, true, false}
+use mathlib.Core.List.{List, [], _∷_, _++_}
+use mathlib.Core.Path.{_≡_, refl, sym, ap}
 use native.Mathlib.Omega.{arith}
 use lib.Dec.{eqb}
-use lib.ListN.{length, getD}
+use lib.ListN.{getD}
 use Rattle.word.proofs.Tests.{cases, by-test}
 use Rattle.form.specs.declared.Operand.{Operand}
 use Rattle.form.specs.declared.Form.{Form}
-use Rattle.text_patterns.specs.Pattern.{lit, seq, many, Each, flat, Spelling}
+use Rattle.text_patterns.specs.Pattern.{seq, Spelling}
 use Rattle.text_patterns.proofs.Joined.{spelling-as, spelling-seq, spelling-lit}
-use Rattle.text_patterns.proofs.Many.{spelling-some}
-use Rattle.text_fields.specs.Digit.{decimalValue, indexIn}
-use Rattle.listing_spec.specs.Listing.{opKey, aKey, formLine}
-use Rattle.listing_forms.specs.Ranges.{kindNumber, modeNumber, aRange, bRange, cRange}
-use Rattle.listing_forms.specs.Forms.{Listable}
+use Rattle.text_fields.specs.Digit.{decimalValue}
+use Rattle.listing_spec.specs.Listing.{opKey, aKey}
+use Rattle.listing_forms.specs.Ranges.{kindNumber, aRange, bRange, cRange}
 use Rattle.listing_forms.specs.declared.Span.{Span}
-use Rattle.listing_line.specs.Line.{kindLetters, opTail, lastEnd, operandFrom, fromCall, fromC, fromB, fromA, lineFields, listingLines}
+use Rattle.listing_line.specs.Line.{kindLetters, opTail, lastEnd, operandFrom, fromCall, fromC, fromB, fromA, lineFields}
 use Rattle.listing_line.proofs.Fields.{OpIn, opWritten, spelling-kind, spelling-op}
 use Rattle.listing_line.proofs.Parts.{opIn, CallPart, callWritten, spelling-call, of-operands, of-kind, of-op, OperandPart, operandWritten, spelling-operand}
 

@@ -1,10 +1,10 @@
 -- The fields' values are those of the forms that can be listed, and the fields' text is the form's line; so lines one
 -- after the other are spelled by the listing's pattern.
 -- Assumes nothing.
-use Prim.Native.Nat.{ℕ, _^_, _≤_, _<_}
+use Prim.Native.Nat.{ℕ, _^_, _≤_}
 use mathlib.Core.Bool.{Bool, true, false}
 use mathlib.Core.List.{List, [], _∷_, _++_, append-assoc, append-nil}
-use mathlib.Core.Path.{_≡_, refl, sym, ap, ap₂, subst, _∙_}
+use mathlib.Core.Path.{_≡_, refl, sym, ap, ap₂, _∙_}
 use native.Mathlib.Omega.{arith}
 use lib.Dec.{eqb}
 use lib.ListN.{length, getD}
@@ -18,17 +18,17 @@ use Rattle.form.specs.declared.Kind.{Kind}
 use Rattle.form.specs.declared.Kind.the-variants.{Add, Mul, Deref, Jump, Extension}
 use Rattle.form.specs.declared.Form.{Form}
 use Rattle.lines.specs.Line.{digit, decimal}
-use Rattle.text_patterns.specs.Pattern.{lit, seq, many, Each, flat, Spelling}
+use Rattle.text_patterns.specs.Pattern.{lit, Each, flat, Spelling}
 use Rattle.text_patterns.specs.Fields.{numeral}
 use Rattle.text_patterns.proofs.Joined.{spelling-as}
 use Rattle.text_patterns.proofs.Many.{spelling-some}
 use Rattle.text_fields.proofs.Decimals.{decimal-is, one-digit}
 use Rattle.listing_spec.specs.Listing.{opText, modeName, opKey, aKey, bKey, cKey, nKey, callText, formLine}
-use Rattle.listing_forms.specs.Ranges.{kindNumber, opNumber, modeNumber}
+use Rattle.listing_forms.specs.Ranges.{kindNumber, modeNumber}
 use Rattle.listing_forms.specs.Forms.{Listable, CallFits, greatest}
-use Rattle.listing_line.specs.Line.{kindLetters, modeLetters, modeRest, lastEnd, operandFrom, callKind, formFrom, lineFields, listingLines}
+use Rattle.listing_line.specs.Line.{kindLetters, modeLetters, modeRest, lastEnd, operandFrom, formFrom, lineFields, listingLines}
 use Rattle.listing_line.proofs.Fields.{named, OpIn, opWritten}
-use Rattle.listing_line.proofs.Parts.{op-there, mode-there, opIn, beIn, nIn, CallPart, callWritten}
+use Rattle.listing_line.proofs.Parts.{op-there, mode-there, opIn, CallPart, callWritten}
 use Rattle.listing_line.proofs.Lines.{All, allWritten, all-fields}
 
 -- what is known of the call, by the kind

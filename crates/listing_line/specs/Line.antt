@@ -40,13 +40,17 @@ kindRest k =
     (cond (eqb k 2) (101 ∷ 114 ∷ 101 ∷ 102 ∷ [])
     (117 ∷ 109 ∷ 112 ∷ [])))
 
+-- of three texts one by its number
+abbrev pub ofThree : List ℕ → List ℕ → List ℕ → ℕ → List ℕ
+ofThree zero one two n = cond (eqb n 0) zero (cond (eqb n 1) one two)
+
 -- dd, ul, eq
 abbrev pub opRest : ℕ → List ℕ
-opRest o = cond (eqb o 0) (100 ∷ 100 ∷ []) (cond (eqb o 1) (117 ∷ 108 ∷ []) (101 ∷ 113 ∷ []))
+opRest o = ofThree (100 ∷ 100 ∷ []) (117 ∷ 108 ∷ []) (101 ∷ 113 ∷ []) o
 
 -- mm: ell: p:
 abbrev pub modeRest : ℕ → List ℕ
-modeRest m = cond (eqb m 0) (109 ∷ 109 ∷ 58 ∷ []) (cond (eqb m 1) (101 ∷ 108 ∷ 108 ∷ 58 ∷ []) (112 ∷ 58 ∷ []))
+modeRest m = ofThree (109 ∷ 109 ∷ 58 ∷ []) (101 ∷ 108 ∷ 108 ∷ 58 ∷ []) (112 ∷ 58 ∷ []) m
 
 -- what is left of an op's text behind its first letter; an extension's operation is its value
 unfoldable pub opTail : ℕ → Pattern ℕ

@@ -3,27 +3,30 @@ use listing_forms::Span;
 use text_fields::Cursor;
 use text_fields::read_letter;
 use text_fields::read_literal;
-use text_fields::read_word;
+use text_fields::read_name;
 ghost use mathlib.Core.Path.{_≡_};
 ghost use Prim.Native.Nat.{_≤_};
 ghost use lib.ListN.{length};
 ghost use Rattle.text_patterns.specs.Pattern.{lit, done};
 ghost use Rattle.text_fields.specs.Field.{readBehind};
-ghost use Rattle.listing_line.specs.Line.{kindRest, opRest, modeRest, opTail, modes};
+ghost use Rattle.listing_line.specs.Line.{ofThree, kindRest, opTail, modes};
 
-// The letters behind a mode's first.
-fn rest_of_mode(text: &[u8], letter: Cursor) -> Cursor
+// The letters behind the first of three names, by its number.
+fn rest_of_three(text: &[u8], letter: Cursor, zero: &[u8], one: &[u8], two: &[u8]) -> Cursor
     requires { ⌜ letter .at ≤ length (now text) ⌝ }
-    ensures { λ r. ⌜ (r ≡ readBehind (lit (modeRest (letter .value)) (done (letter .value))) (now (text .entry)) letter) × (r .at ≤ length (now (text .entry))) ⌝ }
+    ensures { λ r. ⌜
+        (r ≡ readBehind (lit (ofThree (now (zero .entry)) (now (one .entry)) (now (two .entry)) (letter .value)) (done (letter .value))) (now (text .entry)) letter)
+        × (r .at ≤ length (now (text .entry)))
+        ⌝ }
 {
-    let mode = letter.value;
-    if mode == 0 {
-        return read_word(text, letter, b"mm:", mode);
+    let number = letter.value;
+    if number == 0 {
+        return read_name(text, letter, zero, number);
     }
-    if mode == 1 {
-        return read_word(text, letter, b"ell:", mode);
+    if number == 1 {
+        return read_name(text, letter, one, number);
     }
-    read_word(text, letter, b"p:", mode)
+    read_name(text, letter, two, number)
 }
 
 // A mode of a range, by its number.
@@ -32,22 +35,7 @@ pub(crate) fn read_mode(text: &[u8], from: Cursor, range: Span) -> Cursor
     ensures { λ r. ⌜ (r ≡ readBehind (modes range) (now (text .entry)) from) × (r .at ≤ length (now (text .entry))) ⌝ }
 {
     let letter = read_letter(text, from, b"icf", range.low, range.high);
-    rest_of_mode(text, letter)
-}
-
-// The letters behind the second of an extension's operation, by the operation's number.
-fn rest_of_op(text: &[u8], letter: Cursor) -> Cursor
-    requires { ⌜ letter .at ≤ length (now text) ⌝ }
-    ensures { λ r. ⌜ (r ≡ readBehind (lit (opRest (letter .value)) (done (letter .value))) (now (text .entry)) letter) × (r .at ≤ length (now (text .entry))) ⌝ }
-{
-    let op = letter.value;
-    if op == 0 {
-        return read_word(text, letter, b"dd", op);
-    }
-    if op == 1 {
-        return read_word(text, letter, b"ul", op);
-    }
-    read_word(text, letter, b"eq", op)
+    rest_of_three(text, letter, b"mm:", b"ell:", b"p:")
 }
 
 // The letters behind the first of another kind's.
@@ -75,7 +63,7 @@ pub(crate) fn read_op(text: &[u8], kind: Cursor) -> Cursor
 {
     if kind.value == 4 {
         let op = read_letter(text, kind, b"amp", 0, 2);
-        return rest_of_op(text, op);
+        return rest_of_three(text, op, b"dd", b"ul", b"eq");
     }
     rest_of_kind(text, kind)
 }

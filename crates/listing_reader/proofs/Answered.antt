@@ -1,15 +1,15 @@
 -- The reader's three answers, each with the buffer at return.
 -- Assumes nothing.
 use Prim.Native.Nat.{ℕ, _-_, _*_, _^_, _≤_, _<_}
-use mathlib.Core.Bool.{true, false, cond}
 use mathlib.Core.List.{List, [], _∷_, _++_}
 use mathlib.Core.Path.{_≡_, refl, sym, ap, subst, _∙_}
 use native.Mathlib.Omega.{arith}
 use borrow.Author.Tests.{le-leb, lt-leb}
-use lib.ListN.{length, drop, length-drop}
+use lib.ListN.{length, drop}
 use Rattle.answer.specs.declared.Answer.the-variants.{Accepted, Listing, Short}
 use Rattle.form.specs.declared.Form.{Form}
 use Rattle.text_patterns.specs.Pattern.{Parsed, got, left, parse}
+use Rattle.text_fields.proofs.Standing.{place-left}
 use Rattle.listing_spec.specs.Reading.{Sense, Lists, LeavesAt, Means, Assembles}
 use Rattle.listing_spec.specs.declared.Transcribed.{Transcribed}
 use Rattle.listing_forms.specs.Forms.{programOf}
@@ -17,7 +17,7 @@ use Rattle.listing_forms.proofs.Programs.{program-long}
 use Rattle.listing_line.specs.Line.{listingLines}
 use Rattle.listing_law.proofs.Senses.{senseOf, means}
 use Rattle.listing_law.proofs.Length.{place-fits}
-use Rattle.listing_reader.specs.Walk.{End, whole, cut, endOf, ending, filledBy, Wholly}
+use Rattle.listing_reader.specs.Walk.{End, whole, cut, endFrom, ending, filledBy, Wholly}
 use Rattle.listing_reader.proofs.Filling.{its-forms}
 
 -- an end as what it means
@@ -25,7 +25,7 @@ abbrev meaning : List ℕ → End → Sense
 meaning text (whole fs) = Lists (programOf fs)
 meaning text (cut rest) = LeavesAt (length text - length rest)
 
-same-meaning : (text : List ℕ) (p : Parsed (List Form)) → senseOf text p ≡ meaning text (endOf p)
+same-meaning : (text : List ℕ) (p : Parsed (List Form)) → senseOf text p ≡ meaning text (endFrom p)
 same-meaning text (got fs []) = refl
 same-meaning text (got fs (b ∷ rest)) = refl
 same-meaning text (left rest) = refl
@@ -35,11 +35,8 @@ ends-mean text e is = subst (λ (x : End). Means text (meaning text x)) is (subs
 
 module _ (text buffer : List ℕ) where
   module _ (at : ℕ) (inside : at ≤ length text) (is : ending text ≡ cut (drop at text)) where
-    place : length text - length (drop at text) ≡ at
-    place = omega (arith, length-drop at text)
-
     means-leaves : Means text (LeavesAt at)
-    means-leaves = subst (λ (k : ℕ). Means text (LeavesAt k)) place (ends-mean text (cut (drop at text)) is)
+    means-leaves = subst (λ (k : ℕ). Means text (LeavesAt k)) (sym (place-left text at inside)) (ends-mean text (cut (drop at text)) is)
 
     pub at-fits : at < 2 ^ 32
     at-fits = place-fits (means-leaves .1)

@@ -1,11 +1,11 @@
 -- In a text that is a listing each line is read, and its instruction stands behind those before it.
 -- Assumes nothing.
-use Prim.Native.Nat.{ℕ, _+_, _-_, _*_, _^_, _≤_, _<_}
-use mathlib.Core.Bool.{true, false}
+use Prim.Native.Nat.{ℕ, _+_, _-_, _*_, _≤_, _<_}
+use mathlib.Core.Bool.{false}
 use mathlib.Core.List.{List, [], _∷_, _++_, append-assoc, append-nil}
-use mathlib.Core.Path.{_≡_, refl, sym, ap, ap₂, subst, _∙_}
+use mathlib.Core.Path.{_≡_, sym, ap, _∙_}
 use native.Mathlib.Omega.{arith}
-use lib.ListN.{length, take, drop, length-append, length-drop}
+use lib.ListN.{length, take, drop, length-append}
 use lib.Seq.{take-at, drop-at, drop-drop}
 use Rattle.word.proofs.Tests.{cases, by-order}
 use Rattle.word.proofs.Concatenated.{lent-length}
@@ -13,16 +13,16 @@ use Rattle.form.specs.Instruction.{instructionWords}
 use Rattle.form.specs.declared.Instruction.{Instruction}
 use Rattle.form.specs.declared.Form.{Form}
 use Rattle.rows.specs.Rows.{bytesOfWords, putRow}
-use Rattle.text_patterns.specs.Pattern.{parse, got}
+use Rattle.text_patterns.specs.Pattern.{parse}
 use Rattle.text_patterns.proofs.Parsing.{parse-kind}
-use Rattle.listing_forms.specs.Forms.{Listable, instructionOf, formBytes, programOf}
+use Rattle.listing_forms.specs.Forms.{Listable, formInstruction, formBytes, programOf}
 use Rattle.listing_forms.proofs.Programs.{program-long, programOf-snoc}
 use Rattle.listing_line.specs.Line.{lineFields, listingLines, LineRead}
 use Rattle.listing_line.specs.declared.FormRead.{FormRead}
 use Rattle.listing_line.proofs.Listable.{spelling-line}
 use Rattle.listing_law.proofs.Senses.{Forms, read-forms}
-use Rattle.listing_reader.specs.Walk.{whole, ending, filledBy}
-use Rattle.listing_reader.proofs.Ends.{Behind, begins, stops, goes, nothing-read, all-read, not-both, one-whole, whole-got, in-front}
+use Rattle.listing_reader.specs.Walk.{whole, ending}
+use Rattle.listing_reader.proofs.Ends.{Behind, stops, goes, nothing-read, all-read, not-both, one-whole, whole-got, in-front}
 
 module _ (text : List ℕ) (gs : List Form) (is : ending text ≡ whole gs) where
   pub its-forms : Forms gs
@@ -66,7 +66,7 @@ filled fs before = programOf fs ++ drop (48 * length fs) before
 
 -- the next 48 bytes
 module _ (fs : List Form) (f : Form) (before t x : List ℕ) (i : ℕ) (stood : t ≡ filled fs before) (many : length fs ≡ i) (room : 48 * (i + 1) ≤ length t)
-    (made : Instruction) (is : made ≡ instructionOf f) (put : x ≡ putRow (take (48 * i + 48 - 48 * i) (drop (48 * i) t)) 48 (instructionWords made)) where
+    (made : Instruction) (is : made ≡ formInstruction f) (put : x ≡ putRow (take (48 * i + 48 - 48 * i) (drop (48 * i) t)) 48 (instructionWords made)) where
   bytes : x ≡ formBytes f
   unfolding putRow
   bytes = put ∙ rw (lent-length t (48 * i) 48 (omega arith)) (ap (λ (j : Instruction). bytesOfWords (instructionWords j)) is)

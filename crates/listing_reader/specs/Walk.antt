@@ -16,14 +16,14 @@ pub data End : Type 0 where
   whole : List Form → End
   cut : List ℕ → End
 
-abbrev pub endOf : Parsed (List Form) → End
-endOf (got fs []) = whole fs
-endOf (got fs (b ∷ rest)) = cut (b ∷ rest)
-endOf (left rest) = cut rest
+abbrev pub endFrom : Parsed (List Form) → End
+endFrom (got fs []) = whole fs
+endFrom (got fs (b ∷ rest)) = cut (b ∷ rest)
+endFrom (left rest) = cut rest
 
 -- the end of a text's reading
 abbrev pub ending : List ℕ → End
-ending text = endOf (parse listingLines text)
+ending text = endFrom (parse listingLines text)
 
 -- the forms of a listing's lines, as many as a walk counted
 pub record Wholly (text : List ℕ) (lines : ℕ) : Type 0 where

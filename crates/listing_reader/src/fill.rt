@@ -1,6 +1,6 @@
 // The program of a text that is known to be a listing.
 use form_bytes::put_instruction;
-use listing_forms::instruction_of;
+use listing_forms::form_instruction;
 use listing_line::read_line;
 ghost use mathlib.Core.Path.{_≡_};
 ghost use Prim.Native.Nat.{_*_, _≤_};
@@ -18,7 +18,7 @@ pub(crate) fn put_forms(text: &[u8], lines: usize, program: &mut [u8])
         let line = read_line(text, place);
         let at = 48 * i;
         let end = at + 48;
-        put_instruction(&mut program[at..end], instruction_of(line.form));
+        put_instruction(&mut program[at..end], form_instruction(line.form));
         place = line.at;
         i += 1;
     }

@@ -2,7 +2,6 @@
 -- order: op=, a=, b=, c=, and for extension be= and n=. Texts are given as their bytes, in ASCII.
 -- Declared in src/: Op, Mode, Operand, Kind, Form, Decoded (form).
 use Prim.Native.Nat.{ℕ, _*_, _/_}
-use mathlib.Core.Bool.{Bool}
 use mathlib.Core.List.{List, [], _∷_, _++_}
 use lib.ListN.{length}
 use Rattle.word.specs.Bytes.{concatenated}

@@ -1,4 +1,4 @@
-// Listings of programs: definitions in specs/, theorems in proofs/. Document 02, M-105.
+// What a listing is, and what its writer and reader owe: definitions in specs/. Document 02, M-105.
 use answer::Answer;
 ghost use mathlib.Core.Path.{_≡_};
 

@@ -3,7 +3,7 @@
 use Prim.Native.Nat.{ℕ}
 use mathlib.Core.Bool.{Bool, true, false}
 use mathlib.Core.List.{List, [], _∷_, _++_}
-use Rattle.lines.specs.Line.{ended}
+use Rattle.lines.specs.Line.{numbered}
 use Rattle.form.specs.declared.Operand.{Operand}
 use Rattle.form.specs.declared.Kind.{Kind}
 use Rattle.form.specs.declared.Kind.the-variants.{Add, Mul, Deref, Jump, Extension}
@@ -14,15 +14,15 @@ opPiece kind = opKey ++ opText kind ++ (32 ∷ [])
 
 -- a key, an operand and what ends it
 abbrev pub operandPiece : List ℕ → Operand → ℕ → List ℕ
-operandPiece key o end = key ++ ended (modeName (o .mode)) (o .word) end
+operandPiece key o end = key ++ numbered (modeName (o .mode)) (o .word) end
 
 -- operand C is the last, or be= comes behind it
-abbrev pub endOf : Kind → ℕ
-endOf Add = 10
-endOf Mul = 10
-endOf Deref = 10
-endOf Jump = 10
-endOf (Extension op be n) = 32
+abbrev pub endByte : Kind → ℕ
+endByte Add = 10
+endByte Mul = 10
+endByte Deref = 10
+endByte Jump = 10
+endByte (Extension op be n) = 32
 
 -- be=1 n=, be=0 n=
 abbrev pub beText : Bool → List ℕ
@@ -34,4 +34,4 @@ callPiece Add = []
 callPiece Mul = []
 callPiece Deref = []
 callPiece Jump = []
-callPiece (Extension op be n) = ended (beText be) n 10
+callPiece (Extension op be n) = numbered (beText be) n 10

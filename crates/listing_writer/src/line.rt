@@ -9,9 +9,9 @@ use lines::put_number;
 ghost use mathlib.Core.Path.{_≡_};
 ghost use Prim.Native.Nat.{_+_, _≤_};
 ghost use lib.ListN.{length};
-ghost use Rattle.lines.specs.Line.{over, ended};
+ghost use Rattle.lines.specs.Line.{over, numbered};
 ghost use Rattle.listing_spec.specs.Listing.{formLine};
-ghost use Rattle.listing_writer.specs.Pieces.{opPiece, operandPiece, endOf, beText, callPiece};
+ghost use Rattle.listing_writer.specs.Pieces.{opPiece, operandPiece, endByte, beText, callPiece};
 
 // op= and the operation.
 fn put_op(kind: Kind, at: usize, out: &mut [u8]) -> usize
@@ -50,8 +50,8 @@ fn put_operand(key: &[u8], o: Operand, end: u8, at: usize, out: &mut [u8]) -> us
 }
 
 // LF where operand C is the last, and a space where be= comes behind it.
-fn end_of(kind: Kind) -> u8
-    ensures { λ r. ⌜ r ≡ endOf kind ⌝ }
+fn end_byte(kind: Kind) -> u8
+    ensures { λ r. ⌜ r ≡ endByte kind ⌝ }
 {
     match kind {
         Kind::Add => 10,
@@ -64,10 +64,10 @@ fn end_of(kind: Kind) -> u8
 
 // be= and n= of an extension, and LF.
 fn put_be(be: bool, n: u32, at: usize, out: &mut [u8]) -> usize
-    requires { ⌜ at + length (ended (beText be) n 10) ≤ length (now out) ⌝ }
+    requires { ⌜ at + length (numbered (beText be) n 10) ≤ length (now out) ⌝ }
     ensures { λ r. ⌜
-        (r ≡ at + length (ended (beText be) n 10))
-        × (now (out .exit) ≡ over (now (out .entry)) at (ended (beText be) n 10))
+        (r ≡ at + length (numbered (beText be) n 10))
+        × (now (out .exit) ≡ over (now (out .entry)) at (numbered (beText be) n 10))
         ⌝ }
 {
     if be {
@@ -102,6 +102,6 @@ pub(crate) fn put_form(f: Form, at: usize, out: &mut [u8]) -> usize
     let at_a = put_op(kind, at, out);
     let at_b = put_operand(b"a=", a, 32, at_a, out);
     let at_c = put_operand(b"b=", b, 32, at_b, out);
-    let at_call = put_operand(b"c=", c, end_of(kind), at_c, out);
+    let at_call = put_operand(b"c=", c, end_byte(kind), at_c, out);
     put_call(kind, at_call, out)
 }

@@ -27,8 +27,7 @@ pub fn reply(buffer: &mut [u8], a: Answer) -> u32
     ensures { λ r. ⌜ (r ≡ returned a (now (buffer .entry))) × (now (buffer .exit) ≡ replied a (now (buffer .entry))) ⌝ }
 {
     if buffer.len() != 24 {
-        let other = six_numbers(Answer::Buffer);
-        return other.verdict;
+        return misfit();
     }
     let six = six_numbers(a);
     put_numbers(buffer, six);
@@ -39,6 +38,6 @@ pub fn reply(buffer: &mut [u8], a: Answer) -> u32
 pub fn misfit() -> u32
     ensures { λ r. ⌜ r ≡ verdictOf Buffer ⌝ }
 {
-    let numbers = six_numbers(Answer::Buffer);
-    numbers.verdict
+    let other = six_numbers(Answer::Buffer);
+    other.verdict
 }

@@ -10,16 +10,17 @@ use Rattle.text_patterns.specs.Pattern.{Pattern, got, left, parse}
 use Rattle.text_fields.specs.Field.{cursorAt, readBehind}
 use Rattle.text_fields.specs.declared.Cursor.{Cursor}
 
-place : (text : List ℕ) (i : ℕ) → i ≤ length text → i ≡ length text - length (drop i text)
-place text i h = omega (arith, length-drop i text)
+-- a place by the bytes that are left
+pub place-left : (text : List ℕ) (i : ℕ) → i ≤ length text → i ≡ length text - length (drop i text)
+place-left text i h = omega (arith, length-drop i text)
 
 module _ (text : List ℕ) (i : ℕ) (h : i ≤ length text) {r : Cursor} where
   -- a cursor that has stopped at a place, and one behind a value
   halted : r ≡ record { at = i; value = 0; stopped = true } → r ≡ cursorAt text (left (drop i text))
-  halted is = is ∙ ap (λ (k : ℕ). record { at = k; value = 0; stopped = true }) (place text i h)
+  halted is = is ∙ ap (λ (k : ℕ). record { at = k; value = 0; stopped = true }) (place-left text i h)
 
   behind : (v : ℕ) → r ≡ record { at = i; value = v; stopped = false } → r ≡ cursorAt text (got v (drop i text))
-  behind v is = is ∙ ap (λ (k : ℕ). record { at = k; value = v; stopped = false }) (place text i h)
+  behind v is = is ∙ ap (λ (k : ℕ). record { at = k; value = v; stopped = false }) (place-left text i h)
 
 -- what a field's reader promises of its cursor
 abbrev pub Read : Pattern ℕ → List ℕ → Cursor → Cursor → Type 0

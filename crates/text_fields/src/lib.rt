@@ -37,7 +37,7 @@ pub(crate) fn stop_at(at: usize) -> Cursor
 }
 
 // Fixed bytes, and the value that they stand for.
-pub fn read_word(text: &[u8], from: Cursor, word: &[u8], value: u64) -> Cursor
+pub fn read_name(text: &[u8], from: Cursor, word: &[u8], value: u64) -> Cursor
     requires { ⌜ from .at ≤ length (now text) ⌝ }
     ensures { λ r. ⌜ (r ≡ readBehind (lit (now (word .entry)) (done value)) (now (text .entry)) from) × (r .at ≤ length (now (text .entry))) ⌝ }
 {
@@ -69,7 +69,7 @@ pub fn read_literal(text: &[u8], from: Cursor, word: &[u8]) -> Cursor
     requires { ⌜ from .at ≤ length (now text) ⌝ }
     ensures { λ r. ⌜ (r ≡ readBehind (lit (now (word .entry)) (done 0)) (now (text .entry)) from) × (r .at ≤ length (now (text .entry))) ⌝ }
 {
-    read_word(text, from, word, 0)
+    read_name(text, from, word, 0)
 }
 
 // One decimal digit of a range.

@@ -6,7 +6,6 @@ mod listings;
 
 use answer::Answer;
 use answer::accepted;
-use answer::six_numbers;
 pub use editions::uisnabar_translate;
 pub use forms::uisnabar_count;
 pub use forms::uisnabar_report;
@@ -14,6 +13,7 @@ use label::Recipe;
 use label::read_label;
 pub use listings::uisnabar_list;
 pub use listings::uisnabar_read_listing;
+use reply::misfit;
 use reply::reply;
 use word::put_word;
 ghost use mathlib.Core.Path.{_≡_};
@@ -76,8 +76,7 @@ pub extern "C" fn uisnabar_label(text: &[u8], answer: &mut [u8], recipe: &mut [u
         return reply(answer, Answer::Buffer);
     }
     if recipe.len() != 20 {
-        let other = six_numbers(Answer::Buffer);
-        return other.verdict;
+        return misfit();
     }
     let a = reading.answer;
     let r = reading.recipe;

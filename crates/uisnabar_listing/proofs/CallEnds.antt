@@ -1,7 +1,7 @@
 -- The two ends of a call on listings: a buffer of another length, and an answer; and that reading has one outcome.
 -- Assumes nothing.
 use Prim.Native.Nat.{ℕ, _+_}
-use mathlib.Core.Bool.{Bool, true, false, cond, _&&_}
+use mathlib.Core.Bool.{true, false}
 use mathlib.Core.List.{List, [], _∷_, _++_, append-nil}
 use mathlib.Core.Path.{_≡_, refl, sym, ap, _∙_}
 use native.Mathlib.Omega.{arith}
@@ -9,13 +9,12 @@ use lib.Dec.{eqb}
 use lib.ListN.{length, take, drop, drop-of-length-le}
 use borrow.Author.Tests.{eqb-true}
 use Rattle.word.proofs.Tests.{each}
-use Rattle.rows.specs.Rows.{putRow}
 use Rattle.answer.specs.declared.Answer.the-variants.{Buffer}
 use Rattle.text_patterns.specs.Pattern.{parse}
 use Rattle.long.specs.Long.{longBytes}
-use Rattle.reply.specs.Reply.{answerBytes, verdictOf, answerWords, replied}
+use Rattle.reply.specs.Reply.{answerBytes, verdictOf, replied}
 use Rattle.listing_spec.specs.Writing.{listed, listedIn}
-use Rattle.listing_spec.specs.Reading.{Sense, Means, assembled, assembledIn, Assembles}
+use Rattle.listing_spec.specs.Reading.{Sense, assembled, assembledIn, Assembles}
 use Rattle.listing_spec.specs.declared.Transcribed.{Transcribed}
 use Rattle.listing_line.specs.Line.{listingLines}
 use Rattle.listing_law.proofs.Senses.{senseOf, means, means-one}

@@ -1,11 +1,8 @@
 -- Each field's promise, one behind the other, up to operand c; and what is behind it.
-use mathlib.Core.Path.{_≡_, ap, sym, subst, _∙_}
-use Prim.Native.Nat.{ℕ, _≤_}
-use native.Mathlib.Omega.{arith}
+use mathlib.Core.Path.{_≡_, sym, subst, _∙_}
+use Prim.Native.Nat.{ℕ}
 use borrow.Author.Needs.{needs}
-use Rattle.form.specs.declared.Operand.{Operand}
 use Rattle.listing_forms.specs.declared.Span.{Span}
-use Rattle.text_fields.specs.declared.Cursor.{Cursor}
 use Rattle.text_fields.proofs.Standing.{Read}
 use Rattle.text_fields.proofs.Toward.{toward}
 use Rattle.listing_line.specs.Line.{modes, wordField, fromCall}

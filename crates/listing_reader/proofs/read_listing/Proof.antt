@@ -1,13 +1,11 @@
 -- By how the walk ended, and by the room.
-use Prim.Native.Nat.{_≤_}
 use mathlib.Core.Bool.{Bool, true, false}
 use mathlib.Core.List.{List}
 use Prim.Native.Nat.{ℕ}
-use mathlib.Core.Path.{_≡_, refl, ap, subst, _∙_}
+use mathlib.Core.Path.{_≡_, refl, subst}
 use native.Mathlib.Omega.{arith}
 use borrow.Author.Needs.{needs}
-use lib.ListN.{length}
-use Rattle.listing_reader.specs.Walk.{Wholly, WalkedBy, WalkRead}
+use Rattle.listing_reader.specs.Walk.{WalkedBy, WalkRead}
 use Rattle.listing_reader.specs.declared.LineCount.{LineCount}
 use Rattle.listing_reader.proofs.Answered.{at-fits, no-listing, lines-most, too-short, assembles}
 use Rattle.listing_reader.proofs.read_listing.Statement.{statement}

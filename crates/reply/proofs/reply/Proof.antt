@@ -12,13 +12,13 @@ unfolding returned
 returns c =
     let buffer = c .before .before .before .args .buffer .now in
     let other = c .before .if1 .taken in
-    (rw (ne-eqb (length buffer) answerBytes other, c .six-numbers .ensures), row-left buffer answerBytes _ other)
+    (rw (ne-eqb (length buffer) answerBytes other, c .misfit .ensures), row-left buffer answerBytes _ other)
 
 returns-2 : tie.Need-returns-2
 unfolding returned
 returns-2 c =
     let s = c .before .before .before .before .before .before .before .args in
-    let six = c .before .before .before .before .six-numbers2 .ensures in
+    let six = c .before .before .before .before .six-numbers .ensures in
     (rw (eq-eqb (length (s .buffer .now)) answerBytes (c .before .before .before .before .before .if1 .left), six), rw six at (c .before .before .put-numbers .ensures))
 
 pub reply-spec : {M : Type 1} → statement M

@@ -25,7 +25,7 @@ returns-2 c =
     let recipe = s .recipe .now in
     let other = c .before .if2 .taken in
     unfit (s .text .now) (s .answer .now) recipe _ (c .before .before .before .read-label .ensures) _ _ (unfit-right recipe 20 other (eqb (length (s .answer .now)) answerBytes))
-    (rw (c .six-numbers .ensures)) refl
+    (rw (c .misfit .ensures)) refl
 
 returns-3 : tie.Need-returns-3
 returns-3 c =

@@ -1,6 +1,5 @@
 -- `uisnabar_listing::read_listing_call` meets its contract: ANSWER, or what is told.
 use mathlib.Core.Path.{refl, sym, _∙_}
-use native.Mathlib.Omega.{arith}
 use borrow.Author.Needs.{needs}
 use borrow.Author.Tests.{not-true, not-false}
 use Rattle.uisnabar_listing.proofs.CallEnds.{reads-by, unread, told, written-whole, answer-whole}

@@ -1,6 +1,5 @@
 -- `written` by its eight bytes, `answer` by the reply.
-use mathlib.Core.Path.{ap, _∙_}
-use native.Mathlib.Omega.{arith}
+use mathlib.Core.Path.{_∙_}
 use borrow.Author.Needs.{needs}
 use borrow.Author.Tests.{eq-eqb}
 use lib.ListN.{length}

@@ -1,5 +1,5 @@
 -- The letters are read behind the second of an extension's operation, or behind the first.
-use mathlib.Core.Path.{ap, sym, _∙_}
+use mathlib.Core.Path.{sym, _∙_}
 use borrow.Author.Needs.{needs}
 use borrow.Author.Tests.{ne-eqb}
 use Rattle.listing_line.specs.Line.{opTail}
@@ -9,10 +9,10 @@ use Rattle.listing_line.proofs.names.read_op.Tie as tie
 
 returns : tie.Need-returns
 returns c =
-    let s = c .before .before .before .before .before .before in
-    let l = c .before .read-letter .ensures in
-    let r = c .rest-of-op .ensures in
-    (r .0 ∙ sym (op-read (s .args .text .now) (s .args .kind) _ (s .pre) (c .before .before .before .if1 .taken) (l .0)), r .1)
+    let s = c .before .before .before .before .before .before .before .before .before in
+    let l = c .before .before .before .before .read-letter .ensures in
+    let r = c .rest-of-three .ensures in
+    (r .0 ∙ sym (op-read (s .args .text .now) (s .args .kind) _ (s .pre) (c .before .before .before .before .before .before .if1 .taken) (l .0)), r .1)
 
 returns-2 : tie.Need-returns-2
 unfolding opTail
@@ -21,4 +21,4 @@ returns-2 c = rw (ne-eqb (c .before .before .before .before .args .kind .value) 
 pub read-op-spec : {M : Type 1} → statement M
 read-op-spec =
     tie.close
-    (tie.spec (λ c. search needs) (λ c κs. search needs) (λ c κs. search needs) returns (λ c κs. search needs) returns-2)
+    (tie.spec (λ c. search needs) (λ c κs. search needs) (λ c. search needs) (λ c. search needs) (λ c. search needs) (λ c κs. search needs) returns (λ c κs. search needs) returns-2)

@@ -1,5 +1,5 @@
 -- The invariant: the first i lines are read, and their instructions stand in front of what stood there.
-use Prim.Native.Nat.{ℕ, _-_, _*_, _≤_}
+use Prim.Native.Nat.{_-_, _≤_}
 use mathlib.Core.List.{List, [], _∷_, _++_}
 use mathlib.Core.Path.{_≡_, refl, sym, ap, _∙_}
 use native.Mathlib.Omega.{arith}
@@ -28,8 +28,8 @@ loop-holds c = (omega arith, refl, ([], refl, begins _, refl))
 read-line-requires : tie.Need-read-line-requires Inv-loop μ-loop
 read-line-requires c κs = c .before .loop .inv .2 .2 .inside
 
-instruction-of-requires : tie.Need-instruction-of-requires Inv-loop μ-loop
-instruction-of-requires c κs =
+form-instruction-requires : tie.Need-form-instruction-requires Inv-loop μ-loop
+form-instruction-requires c κs =
     let l = c .before .before .before .loop in
     let s = c .before .before .before .before .before .before in
     let w = s .pre .0 in
@@ -40,7 +40,7 @@ instruction-of-requires c κs =
 loop-again : tie.Need-loop-again Inv-loop μ-loop
 loop-again c =
     let put = c .before .before .put-instruction in
-    let made = c .before .before .before .instruction-of in
+    let made = c .before .before .before .form-instruction in
     let read = c .before .before .before .before .before .read-line in
     let l = c .before .before .before .before .before .before .before .loop in
     let s = c .before .before .before .before .before .before .before .before .before .before in
@@ -84,7 +84,7 @@ put-forms-spec =
     (λ c. search needs)
     (λ c. search needs)
     (λ c. search needs)
-    instruction-of-requires
+    form-instruction-requires
     (λ c κs. search needs)
     (λ c. search needs)
     (λ c. search needs)

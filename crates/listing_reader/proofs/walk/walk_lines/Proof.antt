@@ -1,17 +1,13 @@
 -- The invariant: so many lines are read, up to a place, and the rest tells how the text ends. The measure is the lines
 -- that may still come.
-use Prim.Native.Nat.{ℕ, _-_, _<_, _≤_}
-use mathlib.Core.Bool.{Bool, true, false}
+use Prim.Native.Nat.{_-_, _<_, _≤_}
 use mathlib.Core.List.{List, [], _∷_, _++_}
-use mathlib.Core.Path.{_≡_, refl, subst, _∙_}
+use mathlib.Core.Path.{_≡_, refl, _∙_}
 use native.Mathlib.Omega.{arith}
 use borrow.Author.Needs.{needs}
-use borrow.Author.Tests.{eq-eqb, ne-eqb}
 use lib.ListN.{length, length-append}
 use Rattle.form.specs.declared.Form.{Form}
 use Rattle.listing_line.proofs.Known.{line-known}
-use Rattle.listing_reader.specs.Walk.{WalkedBy}
-use Rattle.listing_reader.specs.declared.LineCount.{LineCount}
 use Rattle.listing_reader.proofs.Ends.{Behind, begins, too-many, stops, goes, walked-out}
 use Rattle.listing_reader.proofs.walk.walk_lines.Statement.{statement}
 use Rattle.listing_reader.proofs.walk.walk_lines.Tie as tie

@@ -4,7 +4,7 @@ use borrow.Author.Needs.{needs}
 use mathlib.Core.List.{[], _∷_, _++_}
 use lib.ListN.{length-append}
 use Rattle.lines.proofs.Placing.{stands-next, stands-four}
-use Rattle.listing_writer.specs.Pieces.{opPiece, operandPiece, endOf, callPiece}
+use Rattle.listing_writer.specs.Pieces.{opPiece, operandPiece, endByte, callPiece}
 use Rattle.listing_writer.proofs.Pieces.{line-pieces, pieces-length}
 use Rattle.listing_writer.proofs.line.put_form.Statement.{statement}
 use Rattle.listing_writer.proofs.line.put_form.Tie as tie
@@ -27,12 +27,12 @@ put-operand-requires-2 c κs =
 put-operand-requires-3 : tie.Need-put-operand-requires-3
 put-operand-requires-3 c κs =
     let s = c .before .before .before .before .before .before .before .before .before .before .before .before .before .before .before .before .before .before .before .before .before in
-    rw (c .before .end-of .ensures) (omega (arith, s .pre, pieces-length (s .args .f)))
+    rw (c .before .end-byte .ensures) (omega (arith, s .pre, pieces-length (s .args .f)))
 
 put-call-requires : tie.Need-put-call-requires
 put-call-requires c κs =
     let s = c .before .before .before .before .before .before .before .before .before .before .before .before .before .before .before .before .before .before .before .before .before .before .before .before .before in
-    let third = rw (c .before .before .before .before .before .end-of .ensures) at (c .before .before .before .put-operand3 .ensures .0) in
+    let third = rw (c .before .before .before .before .before .end-byte .ensures) at (c .before .before .before .put-operand3 .ensures .0) in
     let op = c .before .before .before .before .before .before .before .before .before .before .before .before .before .before .before .before .before .before .before .put-op in
     let a = c .before .before .before .before .before .before .before .before .before .before .before .before .before .before .put-operand in
     let b = c .before .before .before .before .before .before .before .before .before .put-operand2 in
@@ -45,8 +45,8 @@ returns c =
     let op = opPiece (f .kind) in
     let a = operandPiece (97 ∷ 61 ∷ []) (f .a) 32 in
     let b = operandPiece (98 ∷ 61 ∷ []) (f .b) 32 in
-    let c′ = operandPiece (99 ∷ 61 ∷ []) (f .c) (endOf (f .kind)) in
-    let third = rw (c .before .before .before .before .before .before .before .before .end-of .ensures) at (c .before .before .before .before .before .before .put-operand3 .ensures) in
+    let c′ = operandPiece (99 ∷ 61 ∷ []) (f .c) (endByte (f .kind)) in
+    let third = rw (c .before .before .before .before .before .before .before .before .end-byte .ensures) at (c .before .before .before .before .before .before .put-operand3 .ensures) in
     let room = pieces-length f in
     rw (line-pieces f)
     (stands-next (s .args .out .now) (s .args .at) (op ++ a ++ b ++ c′) (callPiece (f .kind))

@@ -3,7 +3,6 @@ use Prim.Native.Nat.{_-_, _≤_}
 use native.Mathlib.Omega.{arith}
 use borrow.Author.Needs.{needs}
 use lib.ListN.{length}
-use mathlib.Core.Path.{refl}
 use Rattle.text_fields.proofs.Letters.{Sought, found, another, none-left}
 use Rattle.text_fields.proofs.letter.letter_value.Statement.{statement}
 use Rattle.text_fields.proofs.letter.letter_value.Tie as tie

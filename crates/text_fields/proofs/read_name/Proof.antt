@@ -6,8 +6,8 @@ use lib.ListN.{length, drop}
 use Rattle.text_patterns.specs.Pattern.{lit, done, parse}
 use Rattle.text_patterns.proofs.Parsing.{lit-on, lit-stop, lit-end, lit-done}
 use Rattle.text_fields.proofs.Standing.{stays, stops, gets}
-use Rattle.text_fields.proofs.read_word.Statement.{statement}
-use Rattle.text_fields.proofs.read_word.Tie as tie
+use Rattle.text_fields.proofs.read_name.Statement.{statement}
+use Rattle.text_fields.proofs.read_name.Tie as tie
 
 abbrev Inv-loop : tie.InvT-loop
 Inv-loop text word value at i₀ j₀ i j =
@@ -52,8 +52,8 @@ returns-4 c =
     gets (a .text .now) (a .from) (lit {A = ℕ} (a .word .now) (done (a .value))) (c .before .before .if1 .left) (l .i) (l .inv .0) (a .value)
     (l .inv .1 ∙ lit-done {A = ℕ} (done (a .value)) (a .word .now) (a .text .now) (l .j) (l .i) (search needs)) refl
 
-pub read-word-spec : {M : Type 1} → statement M
-read-word-spec =
+pub read-name-spec : {M : Type 1} → statement M
+read-name-spec =
     tie.close
     (tie.spec
     Inv-loop

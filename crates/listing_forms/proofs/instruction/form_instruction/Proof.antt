@@ -1,11 +1,11 @@
 -- Each word is what its call promises.
 use borrow.Author.Needs.{needs}
-use Rattle.listing_forms.specs.Forms.{instructionOf}
-use Rattle.listing_forms.proofs.instruction.instruction_of.Statement.{statement}
-use Rattle.listing_forms.proofs.instruction.instruction_of.Tie as tie
+use Rattle.listing_forms.specs.Forms.{formInstruction}
+use Rattle.listing_forms.proofs.instruction.form_instruction.Statement.{statement}
+use Rattle.listing_forms.proofs.instruction.form_instruction.Tie as tie
 
 returns : tie.Need-returns
-unfolding instructionOf
+unfolding formInstruction
 returns c =
     let aux = c .before in
     let jump = aux .before in
@@ -27,8 +27,8 @@ returns c =
       c .call-word .ensures,
     )
 
-pub instruction-of-spec : {M : Type 1} → statement M
-instruction-of-spec =
+pub form-instruction-spec : {M : Type 1} → statement M
+form-instruction-spec =
     tie.close
     (tie.spec
     (λ c κs. search needs)
