@@ -1,20 +1,22 @@
 /* uisnabar assemble: a listing, written as the program that it stands for. */
 #include <stdlib.h>
+#include <sys/stat.h>
 
 #include "cli.h"
+
+/* the shortest line, its LF too: op=add a=imm:0 b=imm:0 c=fp:0 */
+enum { LINE_LEAST = 30 };
 
 struct assembled {
     uint8_t *program;
     size_t room, len;
 };
 
-/* 48 bytes for each LF, so that no listing is SHORT; of a text that is longer than any listing the rest is not read */
+/* so much that no listing is SHORT, and no byte is read for it; what a program leaves of it is never touched */
 static size_t room_for(struct bytes text)
 {
-    size_t lines = 0, most = (size_t)UISNABAR_LINE_BYTES * MOST;
-    for (size_t at = 0; at < text.len && at < most && lines < MOST; at++)
-        lines += text.at[at] == '\n';
-    return 4 * layouts[PROGRAM].words * lines;
+    size_t lines = text.len / LINE_LEAST;
+    return 4 * layouts[PROGRAM].words * (lines < MOST ? lines : MOST);
 }
 
 static struct answer ask(struct bytes text, struct assembled *to)
@@ -26,9 +28,9 @@ static struct answer ask(struct bytes text, struct assembled *to)
 }
 
 /* nothing is made beside PROGRAM before LISTING is accepted */
-static int give(struct answer answer, const char *path, const struct assembled *to)
+static int give(struct answer answer, const char *path, const struct stat *listing, const struct assembled *to)
 {
-    struct next next = {.path = path, .what = "program", .doing = "assembling"};
+    struct next next = {.path = path, .what = "program", .doing = "assembling", .listing = listing};
     if (answer.verdict == UISNABAR_ACCEPTED)
         return take_next(&next) ? FAILED : replace(&next, (struct bytes){to->program, to->len}, answer);
     print_lines(stdout, answer);
@@ -47,17 +49,18 @@ static void assemble_sentence(FILE *out, struct bytes text, struct answer answer
 int assemble(int count, char **words)
 {
     struct bytes text;
+    struct stat listing;
     struct assembled to = {0};
     if (count != 2 || words[0][0] == '-' || words[1][0] == '-')
         return failed("assemble takes two files, LISTING and PROGRAM, and no option");
-    if (map_file(words[0], &text))
+    if (map_known(words[0], &text, &listing))
         return FAILED;
     to.room = room_for(text);
     to.program = malloc(to.room + 1); /* never of 0 bytes, which may be none */
     if (!to.program)
-        return failed("there is no memory for the %zu bytes of the program", to.room);
+        return failed("there is no memory for the %zu bytes that a program may have", to.room);
     struct answer answer = ask(text, &to);
-    int status = give(answer, words[1], &to);
+    int status = give(answer, words[1], &listing, &to);
     free(to.program);
     if (status)
         return status;

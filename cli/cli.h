@@ -1,5 +1,6 @@
-/* What the files of the command share. Every judgement is the library's: nothing here tests a rule. (Of what it refused,
- * edition.c says why an instruction was, lookups.c which cell a lookup was of, and expected.c what a listing lacks.) */
+/* What the files of the command share. Every judgement is the library's: nothing here tests a rule. (Of what it
+ * refused, edition.c says why an instruction was, lookups.c which cell a lookup was of, and expected.c what a listing
+ * lacks.) */
 #ifndef CLI_H
 #define CLI_H
 
@@ -60,20 +61,22 @@ struct request {
 };
 int take_tables(int count, char **words, struct request *request);
 
-/* files.c: 0, or FAILED with the sentence said */
+/* files.c: 0, or FAILED with the sentence said; map_known says which file it was too */
 #define LOST "a file became shorter, or could not be read to its end"
+struct stat;
 int map_file(const char *path, struct bytes *file);
+int map_known(const char *path, struct bytes *file, struct stat *is);
 int read_text(const char *path, uint8_t *text, size_t room, size_t *len);
 
 /* replace.c: what is to replace a file, which no two commands have at once */
 #define QUIETLY (O_NONBLOCK | O_NOCTTY | O_CLOEXEC) /* a pipe must not keep it waiting */
-struct stat;
 struct next {
     const char *path, *what, *doing; /* the file, what it is, and how the name of what replaces it ends */
     char name[4096];                 /* that name, in the same folder */
     int file;                        /* what replaces it, open and locked */
     int old;                         /* the file itself, open; below 0 where there is none */
     unsigned mode;                   /* its permissions */
+    const struct stat *listing;      /* a listing that was read, which the file must not be; NULL where none was */
 };
 int regular(const char *path, const char *what, int file, struct stat *is);
 int take_next(struct next *next);

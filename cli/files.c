@@ -29,22 +29,27 @@ static int map(const char *path, int file, size_t len, struct bytes *mapped)
     return 0;
 }
 
-int map_file(const char *path, struct bytes *mapped)
+int map_known(const char *path, struct bytes *mapped, struct stat *is)
 {
-    struct stat is;
     int status = 0;
     int file = open(path, O_RDONLY | O_NONBLOCK | O_NOCTTY | O_CLOEXEC); /* a pipe must not keep it waiting */
     *mapped = (struct bytes){NULL, 0};
     if (file < 0)
         return failed("%s: %s", path, strerror(errno));
-    if (fstat(file, &is) != 0)
+    if (fstat(file, is) != 0)
         status = failed("%s: %s", path, strerror(errno));
-    else if (!S_ISREG(is.st_mode))
+    else if (!S_ISREG(is->st_mode))
         status = failed("%s: not a regular file: write what it holds to a file, and hand that in", path);
-    else if (is.st_size > 0) /* no mapping has 0 bytes */
-        status = map(path, file, (size_t)is.st_size, mapped);
+    else if (is->st_size > 0) /* no mapping has 0 bytes */
+        status = map(path, file, (size_t)is->st_size, mapped);
     close(file);
     return status;
+}
+
+int map_file(const char *path, struct bytes *mapped)
+{
+    struct stat is;
+    return map_known(path, mapped, &is);
 }
 
 int read_text(const char *path, uint8_t *text, size_t room, size_t *len)

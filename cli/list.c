@@ -23,7 +23,7 @@ static struct answer ask(struct bytes program, struct listing *listing)
     return answer_of(verdict, bytes);
 }
 
-/* standard output is the listing or nothing, as it may go to a file; a refusal's lines stand before its sentence */
+/* standard output, which may go to a file, is for the listing alone: a refusal's lines stand before its sentence */
 static void list_sentence(FILE *out, const struct given *given, struct answer answer, size_t len)
 {
     if (answer.verdict == UISNABAR_ACCEPTED) {

@@ -24,11 +24,13 @@ static int name_next(struct next *next)
     return 0;
 }
 
+static bool same(const struct stat *a, const struct stat *b) { return a->st_dev == b->st_dev && a->st_ino == b->st_ino; }
+
 /* whether the name still stands for the open file: the command that had it has renamed or removed it at its end */
 static bool stands(const char *name, int file)
 {
     struct stat named, opened;
-    return lstat(name, &named) == 0 && fstat(file, &opened) == 0 && named.st_dev == opened.st_dev && named.st_ino == opened.st_ino;
+    return lstat(name, &named) == 0 && fstat(file, &opened) == 0 && same(&named, &opened);
 }
 
 static int lock(struct next *next)
@@ -66,6 +68,8 @@ static int open_old(struct next *next)
     if (next->old < 0 && errno == ELOOP)
         return failed("%s: a symbolic link: name the %s itself, which is replaced", next->path, next->what);
     int status = regular(next->path, next->what, next->old, &is);
+    if (status == 0 && next->listing && same(next->listing, &is))
+        status = failed("%s: LISTING and PROGRAM are one file: the program would take the listing's place", next->path);
     if (status == 0)
         next->mode = is.st_mode & 07777;
     return status;

@@ -23,9 +23,10 @@ GOOD = {
     "op=xmul a=fp:1 b=fp:2 c=cell:3 be=1 n=4": (1, 2, 3, 0, 0, 0, 0, 1, 0, 0, 0, 138),
     "op=xpeq a=cell:1 b=cell:2 c=cell:3 be=0 n=3": (1, 2, 3, 0, 0, 0, 0, 0, 0, 0, 0, 112),
     "op=xpeq a=fp:0 b=fp:0 c=fp:0 be=0 n=999999": (0, 0, 0, 0, 0, 0, 1, 1, 0, 0, 0, 31999984),
+    "op=add a=imm:0 b=imm:0 c=fp:0": (0, 0, 0, 1, 1, 0, 1, 0, 0, 0, 1, 0),
     "op=xmul a=cell:2130706432 b=cell:2130706432 c=cell:2130706432 be=1 n=1048576": (TOP, TOP, TOP, 0, 0, 0, 0, 0, 0, 0, 0, 33554442),
 }
-LONGEST = list(GOOD)[-1]
+SHORTEST, LONGEST = list(GOOD)[-2:]
 
 # how some valid line begins; what follows, and what is said to be expected in its stead
 OPERATIONS = "add, mul, deref, jump, xadd, xmul or xpeq"

@@ -11,7 +11,7 @@ import subprocess
 import cli_cases
 import oracle
 import shelf
-from cli_listing_cases import BAD, FORMS, FOUND, GOOD, LONGEST, MOST, place
+from cli_listing_cases import BAD, FORMS, FOUND, GOOD, LONGEST, MOST, SHORTEST, place
 from cli_run import COMMAND, ROOT, as_nobody, check, could_not, limited, run, unwritable
 from oracle import P, bytes_of, six
 
@@ -57,18 +57,24 @@ def both_ways(name, text, words):
 
 
 def accepted():
-    """Each line alone and all in a row; as many as there may be; there are as many forms as document 01 allows."""
+    """Each line alone and all in a row; as many as there may be, and no line is shorter or longer than these; there are
+    as many forms as document 01 allows."""
     for line, words in GOOD.items():
         check(f"{line}: the place", place(line.encode() + b"\n"), None)
         both_ways(line, line.encode() + b"\n", bytes_of(words))
     both_ways("all", TEXT, WORDS)
     check("forms of a line", len(FORMS), 12 + 12 + 3 + 8 + 3 * 15)
-    put(f"{LONGEST}\n".encode() * MOST)
-    check("2^20 lines", (run("assemble", "listing", "assembled")[0], left()), (0, (bytes_of(GOOD[LONGEST]) * MOST, False)))
-    check("2^20 instructions", run("list", "assembled")[:2], (0, LISTING.read_bytes()))
+    lengths = f"longest line has {len(LONGEST) + 1} bytes", f"shortest line, `{SHORTEST}`, has {len(SHORTEST) + 1} with"
+    check("the page's lengths", [text in PAGE for text in lengths], [True, True])
+    for line, end in ((SHORTEST, min), (LONGEST, max)):
+        lengths = [len("".join(part if isinstance(part, str) else str(end(part)) for part in form)) for form in FORMS]
+        check(f"{line}: its length", end(lengths), len(line) + 1)
+        put(f"{line}\n".encode() * MOST)
+        check(f"2^20 lines, {line}", (run("assemble", "listing", "assembled")[0], left()), (0, (bytes_of(GOOD[line]) * MOST, False)))
+        check(f"2^20 instructions, {line}", run("list", "assembled")[:2], (0, LISTING.read_bytes()))
     if memory(0):
         could_not("too little memory", run("list", "assembled", **memory(2**25)), "there is no memory for the 80740352 bytes that a listing")
-        could_not("too little memory", run("assemble", "listing", "new", **memory(2**25)), "there is no memory for the 50331648 bytes of")
+        could_not("too little memory", run("assemble", "listing", "new", **memory(2**25)), "there is no memory for the 50331648 bytes that a program")
 
 
 def unlisted(name, text, at, said):
@@ -165,7 +171,26 @@ def no_files():
                         ("listings/link", "a symbolic link: name the program itself"), ("x" * 250, "File name too long")):
         could_not(f"assemble to {path[:40]!r}", run("assemble", "listing", path), about)
     check("nothing was made", (sorted(os.listdir("listings")), os.listdir("listings/folder"), left()), (before, [], (HELD, False)))
-    check("one file as both", (run("assemble", "listing", "./listing")[0], LISTING.read_bytes()), (0, WORDS))
+
+
+def one_file():
+    """LISTING is not replaced, by whatever name: its own, a hard link's, a symbolic link's; and nothing is made."""
+    put(TEXT)
+    shutil.rmtree("names", ignore_errors=True)
+    os.makedirs("names/folder")
+    os.link("listing", "names/hard")
+    os.symlink("../listing", "names/link")
+    os.symlink("..", "names/folder/up")
+    before = sorted(os.listdir("."))
+    about = "LISTING and PROGRAM are one file: the program would take the listing's place"
+    for names in (("listing", "listing"), ("listing", "./listing"), ("listing", "names/hard"), ("names/hard", "listing"), ("names/link", "listing"),
+                  ("names/link", "names/hard"), ("listing", "names/folder/up/hard"), (os.path.abspath("listing"), "listing")):
+        could_not(f"one file as both: {names}", run("assemble", *names), f"{names[1]}: {about}")
+    could_not("one file as both, by a link", run("assemble", "listing", "names/link"), "a symbolic link: name the program itself")
+    check("the listing stays", (LISTING.read_bytes(), LISTING.samefile("names/hard"), sorted(os.listdir(".")), sorted(os.listdir("names"))),
+          (TEXT, True, before, ["folder", "hard", "link"]))
+    shutil.copy("listing", "names/copy")
+    check("a file with the same bytes", (run("assemble", "listing", "names/copy")[0], pathlib.Path("names/copy").read_bytes()), (0, WORDS))
 
 
 def permissions():
@@ -242,9 +267,15 @@ def page():
     shutil.rmtree("page", ignore_errors=True)
     os.mkdir("page")
     os.symlink(ROOT / "tests", "page/tests")
-    pathlib.Path("page/label").write_bytes(shelf.answer_and_tables((ROOT / "shelf/seed-0.label").read_bytes())[1])
+    os.makedirs("page/share/uisnabar")
+    os.mkdir("page/bin")
+    os.symlink(ROOT / "shelf", "page/share/uisnabar/shelf")
+    tables = shelf.answer_and_tables((ROOT / "shelf/seed-0.label").read_bytes())[1]
+    pathlib.Path("page/label").write_bytes(tables)
     pathlib.Path("page/bench").write_text('#!/bin/sh\n[ "$*" = "table shelf/seed-0.label" ] && cat label\n')
-    os.chmod("page/bench", 0o755)
+    pathlib.Path("page/bin/uisnabar-table").write_text("#!/bin/sh\ncmp -s - share/uisnabar/shelf/seed-0.label && cat label\n")
+    for path in ("page/bench", "page/bin/uisnabar-table"):
+        os.chmod(path, 0o755)
     pathlib.Path("page/listing").write_text("".join(line + "\n" for line in re.findall(r"^\| \d \| `(op=.+)` \|", PAGE, re.M)))
     emulator = " ".join(f"'{word}'" for word in COMMAND)
     for number, (typed, wanted) in enumerate(shown()):
@@ -255,7 +286,9 @@ def page():
             check(f"the page's example {number}", (done.stdout + done.stderr).decode(), wanted)
         if number == 1:
             tabled()
-    check("the page's examples", (number, pathlib.Path("page/program").read_bytes()), (5, pathlib.Path("page/label").read_bytes()[:-43008]))
+        if number in (5, 6):
+            check(f"the page's tables {number}", pathlib.Path("page/tables").read_bytes(), tables)
+    check("the page's examples", (number, pathlib.Path("page/program").read_bytes()), (7, tables[:-43008]))
     check("its listing", run("assemble", "page/listing", "assembled")[0] == 0 and left()[0], pathlib.Path("page/program").read_bytes())
 
 
@@ -266,4 +299,4 @@ def tabled():
         check(f"the page's {name}", found, tuple(word for row in rows_of(columns, words) for word in row))
 
 
-GROUPS = (accepted, sentences, everywhere, unlistable, no_files, permissions, unwritten, usage, page)
+GROUPS = (accepted, sentences, everywhere, unlistable, no_files, one_file, permissions, unwritten, usage, page)

@@ -3,6 +3,9 @@
 use crate::calls::{uisnabar_list, uisnabar_read_listing};
 use crate::{number, outcome, Refusal, ANSWER_BYTES, INSTRUCTION, LINE_BYTES, MOST_INSTRUCTIONS, WRITTEN_BYTES};
 
+/// The shortest line, its LF too: `op=add a=imm:0 b=imm:0 c=fp:0`.
+const LINE_LEAST: usize = 30;
+
 /// A function of the library that reads one buffer and writes another, of so many bytes: what it wrote.
 macro_rules! written {
     ($call:ident($from:ident), $room:expr) => {{
@@ -38,7 +41,7 @@ pub fn list(program: &[u8]) -> Result<String, Refusal> {
 /// The program that a listing stands for, which [`judge`](crate::judge) takes; or LISTING and how long a prefix the
 /// text shares with a valid one.
 pub fn read_listing(text: &[u8]) -> Result<Vec<u8>, Refusal> {
-    // a text with more lines than a program may have instructions is refused, whatever the room is
-    let lines = text.iter().filter(|byte| **byte == b'\n').count().min(MOST_INSTRUCTIONS);
+    // no listing has more lines, and no byte is read for it; what a program leaves of the room is never touched
+    let lines = (text.len() / LINE_LEAST).min(MOST_INSTRUCTIONS);
     Ok(written!(uisnabar_read_listing(text), lines * INSTRUCTION))
 }

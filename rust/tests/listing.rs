@@ -3,7 +3,7 @@ use uisnabar::{list, read_listing, LINE_BYTES};
 
 const P: u32 = 2_130_706_433;
 /// Lines, and the words that each stands for: every operation, and each way to write an operand.
-const PAIRS: [(&str, [u32; 12]); 9] = [
+const PAIRS: [(&str, [u32; 12]); 10] = [
     ("op=add a=cell:1 b=imm:2 c=fp:3\n", [1, 2, 3, 0, 1, 0, 1, 0, 0, 0, 1, 0]),
     ("op=add a=imm:0 b=cell:2130706432 c=imm:10\n", [0, P - 1, 10, 1, 0, 1, 0, 0, 0, 0, 1, 0]),
     ("op=mul a=imm:7 b=cell:8 c=cell:9\n", [7, 8, 9, 1, 0, 0, 0, 0, 1, 0, 0, 0]),
@@ -13,7 +13,9 @@ const PAIRS: [(&str, [u32; 12]); 9] = [
     ("op=xmul a=fp:1 b=fp:2 c=cell:3 be=1 n=4\n", [1, 2, 3, 0, 0, 0, 0, 1, 0, 0, 0, 138]),
     ("op=xpeq a=cell:1 b=imm:2 c=fp:3 be=0 n=3\n", [1, 2, 3, 0, 1, 0, 1, 0, 0, 0, 0, 112]),
     (LONGEST, [P - 1, P - 1, P - 1, 0, 0, 0, 0, 0, 0, 0, 0, 33_554_442]),
+    (SHORTEST, [0, 0, 0, 1, 1, 0, 1, 0, 0, 0, 1, 0]),
 ];
+const SHORTEST: &str = "op=add a=imm:0 b=imm:0 c=fp:0\n";
 const LONGEST: &str = "op=xmul a=cell:2130706432 b=cell:2130706432 c=cell:2130706432 be=1 n=1048576\n";
 
 fn bytes<'a>(words: impl IntoIterator<Item = &'a u32>) -> Vec<u8> {
@@ -44,10 +46,16 @@ fn every_operation_is_listed_and_read() {
 #[test]
 fn the_longest_line_has_the_bytes_that_are_said() {
     assert_eq!(LONGEST.len(), LINE_BYTES);
-    let (text, program) = (LONGEST.repeat(1 << 20), bytes(&PAIRS[8].1).repeat(1 << 20));
-    assert!(read_listing(text.as_bytes()).as_ref() == Ok(&program) && list(&program).as_ref() == Ok(&text));
-    assert_eq!(refused(&(text + LONGEST)), place(LINE_BYTES << 20));
     assert_eq!(list(&bytes(&PAIRS[8].1).repeat((1 << 20) + 1)).unwrap_err().name(), "SIZE");
+}
+
+#[test]
+fn as_many_lines_as_there_may_be_are_listed_and_read() {
+    for (line, words) in &PAIRS[8..] {
+        let (text, program) = (line.repeat(1 << 20), bytes(words).repeat(1 << 20));
+        assert!(read_listing(text.as_bytes()).as_ref() == Ok(&program) && list(&program).as_ref() == Ok(&text));
+        assert_eq!(refused(&(text + line)), place(line.len() << 20));
+    }
 }
 
 #[test]
