@@ -24,16 +24,14 @@ pub fn read_listing(text: &[u8], program: &mut [u8]) -> Transcribed
 {
     let read = walk_lines(text);
     if read.stopped {
-        return refused(Answer::Listing {
-            place: read.at as u32,
-        });
+        let place = read.at as u32;
+        return refused(Answer::Listing { place });
     }
     let lines = read.lines;
     let needed = 48 * lines;
     if program.len() < needed {
-        return refused(Answer::Short {
-            place: needed as u32,
-        });
+        let place = needed as u32;
+        return refused(Answer::Short { place });
     }
     put_forms(text, lines, program);
     Transcribed {

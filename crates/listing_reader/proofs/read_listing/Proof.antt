@@ -15,7 +15,7 @@ use Rattle.listing_reader.proofs.read_listing.Tie as tie
 known : (b : Bool) (text : List ℕ) (r : LineCount) → r .stopped ≡ b → WalkRead text r → WalkedBy b text r
 known b text r e w = subst (λ (x : Bool). WalkedBy x text r) e w
 
-place-fits : tie.Need-cast-t7
+place-fits : tie.Need-cast-place
 place-fits c =
     let r = c .before .before .walk-lines in
     let s = c .before .before .before .before .before in
@@ -35,7 +35,7 @@ needed-fits c =
     let s = c .before .before .before .before in
     omega (arith, lines-most (s .args .text .now) (s .args .program .now) (r .result .lines) (known false (s .args .text .now) (r .result) (c .if1 .left) (r .ensures)))
 
-short-fits : tie.Need-cast-t10
+short-fits : tie.Need-cast-place-2
 short-fits c =
     let r = c .before .before .walk-lines in
     let s = c .before .before .before .before .before in
