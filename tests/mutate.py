@@ -1,5 +1,5 @@
-"""Edits of a definition that its theorems must refuse: the edited crate is still proved, and `run`, for listings `listing_law`, or a crate of
-theorems below it, is not.
+"""Edits of a definition that its theorems must refuse: the edited crate is still proved, and `run`, for listings `listing_law`, for streams
+`stream_law`, or a crate of theorems below it, is not.
 
   mutate.py            tries every edit
   mutate.py CRATE..    tries the edits of the crates named, as tabler_spec
@@ -17,6 +17,7 @@ WARM = ("rlib", "stamp", "log")  # what rt keeps of crates that are proved
 RULES = "crates/rules/specs/"
 TABLED = "crates/tabler_spec/specs/Tabled.antt"
 LISTING = "crates/listing_spec/specs/Listing.antt"
+STREAM = "crates/stream_spec/specs/"
 ROOM = r"&& leb \(filled m state \(suc r\) \+ 1\) extHeight$"
 
 # name, file, what stands there (a line's start, or a piece of it), what is put there
@@ -70,10 +71,18 @@ EDITS = [
     ("no LF behind a line", LISTING, r"\n    \+\+ \(10 ∷ \[\]\)$", ""),
     ("a program of words at or above p", "crates/listing_spec/specs/Program.antt", r"\(words 1 program (\(.*\))\) \(Size", r"\1 (Size"),
     ("a program of numbers that are no bytes", "crates/listing_spec/specs/Program.antt", r"getD program k 0 < 256", "getD program k 0 < 257"),
+    ("a jump of one draw more", STREAM + "Stream.antt", r"^advances zero s = s$", "advances zero s = advance s"),
+    ("another increment than a draw's", STREAM + "Pairs.antt", r"increment = 1442695040888963407", "increment = 1442695040888963409"),
+    ("the first increment not multiplied", STREAM + "Pairs.antt", r"p \.multiplier \* p \.increment \+ p \.increment", "p .increment + p .increment"),
+    ("a pair that is not doubled", STREAM + "Pairs.antt", r"^pairOf \(suc i\) = .*$", "pairOf (suc i) = pairOf i"),
+    ("a host more", STREAM + "Host.antt", r"^hosts = .*$", "hosts = 2 ^ 24 + 1"),
+    ("hosts 2^41 draws apart", STREAM + "Host.antt", r"^ownDraws = .*$", "ownDraws = 2 ^ 41"),
+    ("a host one draw further on", STREAM + "Host.antt", r"after \(k \* ownDraws\) g", "after (k * ownDraws + 1) g"),
+    ("a refused host that jumps", STREAM + "Host.antt", r"answer = Host; generator = g ", "answer = Host; generator = after k g "),
 ]
 
 # the crate of theorems that must refuse an edit, by the crate that is edited; of the others it is run
-THEOREMS = {"listing_spec": "listing_law"}
+THEOREMS = {"listing_spec": "listing_law", "stream_spec": "stream_law"}
 
 # what an edit needs beside it
 EXTRA = {

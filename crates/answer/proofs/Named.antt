@@ -28,6 +28,7 @@ use Rattle.answer.specs.declared.Answer.the-variants.{
   Edition,
   Listing,
   Short,
+  Host,
 }
 
 abbrev answerIn : ℕ → ℕ → ℕ → ℕ → ℕ → ℕ → Answer
@@ -51,6 +52,7 @@ answerIn verdict part place rule expected found =
     ∷ Edition place
     ∷ Listing place
     ∷ Short place
+    ∷ Host
     ∷ [])
     verdict Accepted
 
@@ -76,6 +78,7 @@ named-back Grid = refl
 named-back (Edition place) = refl
 named-back (Listing place) = refl
 named-back (Short place) = refl
+named-back Host = refl
 
 pub one-number : (a b : Answer) → numbersOf a ≡ numbersOf b → a ≡ b
 one-number a b e = sym (named-back a) ∙ ap named e ∙ named-back b

@@ -58,6 +58,7 @@ pub enum Answer {
     Short {
         place: u32,
     },
+    Host,
 }
 
 // An answer as the paper counts it. What a verdict does not name is 0.
@@ -123,6 +124,7 @@ pub fn six_numbers(a: Answer) -> Numbers
         Answer::Edition { place } => four(15, 0, place, 0),
         Answer::Listing { place } => four(16, 0, place, 0),
         Answer::Short { place } => four(17, 0, place, 0),
+        Answer::Host => four(18, 0, 0, 0),
     }
 }
 

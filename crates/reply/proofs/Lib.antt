@@ -1,1 +1,2 @@
 pub mod Unfit
+pub mod Telling

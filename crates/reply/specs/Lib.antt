@@ -1,1 +1,2 @@
 pub mod Reply
+pub mod Told

@@ -1,7 +1,12 @@
-// An answer as a C call gives it: the verdict returned, the six numbers in the caller's 24 bytes.
+// An answer as a C call gives it: the verdict returned, the six numbers in the caller's 24 bytes; and beside it a
+// number in eight bytes, where the call gives one.
+mod told;
+
 use answer::Answer;
 use answer::Numbers;
 use answer::six_numbers;
+pub use told::tell;
+pub use told::told_fits;
 use word::put_word;
 ghost use mathlib.Core.Path.{_≡_};
 ghost use lib.ListN.{length};

@@ -26,6 +26,7 @@ use Rattle.answer.specs.declared.Answer.the-variants.{
   Edition,
   Listing,
   Short,
+  Host,
 }
 use Rattle.machine.specs.Machine.{Machine, State}
 use Rattle.machine.specs.Step.{Outcome, goes, stuck, step}
@@ -96,6 +97,7 @@ heldAfter Grid old written = old
 heldAfter (Edition place) old written = old
 heldAfter (Listing place) old written = old
 heldAfter (Short place) old written = old
+heldAfter Host old written = old
 
 abbrev pub execAfter : List ℕ → List ℕ → ℕ → ℕ → List ℕ → List ℕ → List ℕ
 execAfter program memory pc fp exec ext =

@@ -1,8 +1,9 @@
-// The C library: the judge, form counts, programs from draft 0.5.0, listings and the label reader, as
+// The C library: the judge, form counts, programs from draft 0.5.0, listings, streams and the label reader, as
 // include/uisnabar.h declares them.
 mod editions;
 mod forms;
 mod listings;
+mod streams;
 
 use answer::Answer;
 use answer::accepted;
@@ -15,6 +16,8 @@ pub use listings::uisnabar_list;
 pub use listings::uisnabar_read_listing;
 use reply::misfit;
 use reply::reply;
+pub use streams::uisnabar_host;
+pub use streams::uisnabar_jump;
 use word::put_word;
 ghost use mathlib.Core.Path.{_≡_};
 ghost use lib.ListN.{length};

@@ -1,18 +1,17 @@
 -- The two ends of a call that reports: a buffer of another length, and an answer.
 -- Assumes nothing.
-use mathlib.Core.Path.{_≡_, refl, sym, ap, _∙_}
-use mathlib.Core.Bool.{Bool, true, false, cond, _&&_}
-use mathlib.Core.List.{List, [], _∷_, _++_, append-nil}
-use Prim.Native.Nat.{ℕ, _+_}
-use native.Mathlib.Omega.{arith}
+use mathlib.Core.Path.{_≡_, ap, _∙_}
+use mathlib.Core.Bool.{true, false}
+use mathlib.Core.List.{List, [], _∷_}
+use Prim.Native.Nat.{ℕ}
 use lib.Dec.{eqb}
-use lib.ListN.{length, take, drop, drop-of-length-le}
+use lib.ListN.{length}
 use borrow.Author.Tests.{eqb-true}
 use Rattle.word.proofs.Tests.{each}
 use Rattle.answer.specs.declared.Answer.{Answer}
 use Rattle.answer.specs.declared.Answer.the-variants.{Buffer}
 use Rattle.long.specs.Long.{longBytes}
-use Rattle.reply.specs.Reply.{answerBytes, verdictOf, returned, replied}
+use Rattle.reply.specs.Reply.{answerBytes, verdictOf, replied}
 use Rattle.grid_spec.specs.Report.{reportAnswer, reportLength, reportedIn}
 use Rattle.grid_bytes.specs.GridBytes.{gridOf}
 use Rattle.uisnabar_forms.specs.ReportCall.{reportFits, reportReturned, reportTextLeft, reportWrittenLeft, reportAnswerLeft}
@@ -38,20 +37,14 @@ module _ (grid text written answer : List ℕ) where
     pub grid-whole : length grid ≡ 1080
     grid-whole = eqb-true (length grid) 1080 (lengths .0)
 
-    pub written-whole : length written ≡ 8
-    written-whole = eqb-true (length written) 8 (lengths .1)
-
-    -- all of the eight bytes
-    eight : (x : ℕ) → take 0 written ++ longBytes x ++ drop (0 + 8) written ≡ longBytes x
-    eight x = rw (drop-of-length-le written {i = 8} (omega (arith, written-whole))) (append-nil (longBytes x))
+    pub told-wholes : (length written ≡ 8) × (length answer ≡ answerBytes)
+    told-wholes = (eqb-true (length written) 8 (lengths .1), eqb-true (length answer) answerBytes (lengths .2))
 
     pub told-call : (a : Answer) (x : ℕ) (textAfter writtenAfter answerAfter : List ℕ) (r : ℕ) → a ≡ reportAnswer (gridOf grid) (length text)
         → x ≡ reportLength (gridOf grid) (length text)
         → textAfter ≡ reportedIn (gridOf grid) text
-        → writtenAfter ≡ take 0 written ++ longBytes x ++ drop (0 + 8) written
-        → r ≡ returned a answer
-        → answerAfter ≡ replied a answer
+        → (r ≡ verdictOf a) × (writtenAfter ≡ longBytes x) × (answerAfter ≡ replied a answer)
         → Reports r textAfter writtenAfter answerAfter
-    unfolding reportReturned reportTextLeft reportWrittenLeft reportAnswerLeft returned
-    told-call a x textAfter writtenAfter answerAfter r said long printed put told replied-to =
-        (rw e (rw (lengths .2, said) at told), (rw e printed, (rw e (put ∙ eight x ∙ ap longBytes long), rw e (rw said at replied-to))))
+    unfolding reportReturned reportTextLeft reportWrittenLeft reportAnswerLeft
+    told-call a x textAfter writtenAfter answerAfter r said long printed told =
+        (rw e (rw said at (told .0)), (rw e printed, (rw e (told .1 ∙ ap longBytes long), rw e (rw said at (told .2)))))

@@ -5,9 +5,9 @@ use grid::count;
 use grid_bytes::read_grid;
 use grid_bytes::write_grid;
 use grid_report::report;
-use long::put_long;
 use reply::misfit;
 use reply::reply;
+use reply::tell;
 ghost use mathlib.Core.Path.{_≡_};
 ghost use mathlib.Core.Bool.{cond, _&&_};
 ghost use lib.Dec.{eqb};
@@ -77,8 +77,6 @@ pub fn report_call(grid: &[u8], text: &mut [u8], written: &mut [u8], answer: &mu
         return misfit();
     }
     let reported = report(read_grid(grid), text);
-    let length = reported.length;
     let a = reported.answer;
-    put_long(written, 0, length);
-    reply(answer, a)
+    tell(a, reported.length, written, answer)
 }

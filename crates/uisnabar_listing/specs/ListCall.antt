@@ -2,17 +2,17 @@
 use Prim.Native.Nat.{ℕ}
 use mathlib.Core.List.{List}
 use Rattle.listing_spec.specs.Writing.{listed, listedIn}
-use Rattle.uisnabar_listing.specs.Told.{toldReturned, toldWritten, toldAnswer, toldBuffer}
+use Rattle.reply.specs.Told.{toldReturned, toldNumber, toldAnswer, toldBuffer}
 
 module _ (program text written answer : List ℕ) where
   unfoldable pub listReturned : ℕ
-  listReturned = toldReturned written answer (listed program text)
+  listReturned = toldReturned written answer (listed program text .answer)
 
   unfoldable pub listTextLeft : List ℕ
   listTextLeft = toldBuffer written answer (listedIn program text) text
 
   unfoldable pub listWrittenLeft : List ℕ
-  listWrittenLeft = toldWritten written answer (listed program text)
+  listWrittenLeft = toldNumber written answer (listed program text .written)
 
   unfoldable pub listAnswerLeft : List ℕ
-  listAnswerLeft = toldAnswer written answer (listed program text)
+  listAnswerLeft = toldAnswer written answer (listed program text .answer)

@@ -3,12 +3,12 @@ use Prim.Native.Nat.{ℕ}
 use mathlib.Core.List.{List}
 use mathlib.Core.Path.{_≡_}
 use Rattle.listing_spec.specs.Reading.{Sense, Means, assembled, assembledIn}
-use Rattle.uisnabar_listing.specs.Told.{toldReturned, toldWritten, toldAnswer, toldBuffer}
+use Rattle.reply.specs.Told.{toldReturned, toldNumber, toldAnswer, toldBuffer}
 
 pub record ReadListingCall (text program written answer programAfter writtenAfter answerAfter : List ℕ) (returned : ℕ) : Type 0 where
   pub sense : Sense
   pub means : Means text sense
-  pub verdict : returned ≡ toldReturned written answer (assembled sense program)
+  pub verdict : returned ≡ toldReturned written answer (assembled sense program .answer)
   pub programLeft : programAfter ≡ toldBuffer written answer (assembledIn sense program) program
-  pub writtenLeft : writtenAfter ≡ toldWritten written answer (assembled sense program)
-  pub answerLeft : answerAfter ≡ toldAnswer written answer (assembled sense program)
+  pub writtenLeft : writtenAfter ≡ toldNumber written answer (assembled sense program .written)
+  pub answerLeft : answerAfter ≡ toldAnswer written answer (assembled sense program .answer)

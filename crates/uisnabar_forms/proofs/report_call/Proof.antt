@@ -2,8 +2,7 @@
 use borrow.Author.Needs.{needs}
 use borrow.Author.Tests.{not-true, not-false}
 use mathlib.Core.Path.{sym, _∙_}
-use native.Mathlib.Omega.{arith}
-use Rattle.uisnabar_forms.proofs.ReportEnds.{unfit-call, grid-whole, written-whole, told-call}
+use Rattle.uisnabar_forms.proofs.ReportEnds.{unfit-call, grid-whole, told-wholes, told-call}
 use Rattle.uisnabar_forms.proofs.report_call.Statement.{statement}
 use Rattle.uisnabar_forms.proofs.report_call.Tie as tie
 
@@ -17,18 +16,17 @@ read-grid-requires c κs =
     let s = c .before .before .before .before .before .before .args in
     grid-whole (s .grid .now) (s .text .now) (s .written .now) (s .answer .now) (sym (c .before .report-fits .ensures) ∙ not-false _ (c .if1 .left))
 
-put-long-requires : tie.Need-put-long-requires
-put-long-requires c κs =
-    let s = c .before .before .before .before .before .before .before .before .before .before .before .before .args in
-    omega (arith, written-whole (s .grid .now) (s .text .now) (s .written .now) (s .answer .now) (sym (c .before .before .before .before .before .before .before .report-fits .ensures) ∙ not-false _ (c .before .before .before .before .before .before .if1 .left)))
+tell-requires : tie.Need-tell-requires
+tell-requires c κs =
+    let s = c .before .before .before .before .before .before .before .before .before .before .before .before .before .args in
+    told-wholes (s .grid .now) (s .text .now) (s .written .now) (s .answer .now) (sym (c .before .before .before .before .before .before .before .before .report-fits .ensures) ∙ not-false _ (c .before .before .before .before .before .before .before .if1 .left))
 
 returns-2 : tie.Need-returns-2
 returns-2 c =
-    let s = c .before .before .before .before .before .before .before .before .before .before .before .before .before .before .before .before .before .before .before .args in
-    let printed = rw (c .before .before .before .before .before .before .before .before .before .before .before .before .read-grid .ensures) at (c .before .before .before .before .before .before .before .before .before .before .report .ensures) in
-    let told = c .before .before .reply .ensures in
-    told-call (s .grid .now) (s .text .now) (s .written .now) (s .answer .now) (sym (c .before .before .before .before .before .before .before .before .before .before .before .before .before .before .report-fits .ensures) ∙ not-false _ (c .before .before .before .before .before .before .before .before .before .before .before .before .before .if1 .left)) _ _ _ _ _ _ (printed .0) (printed .1) (printed .2)
-    (c .before .before .before .before .before .before .put-long .ensures) (told .0) (told .1)
+    let s = c .before .before .before .before .before .before .before .before .before .before .before .before .before .before .before .before .before .before .args in
+    let printed = rw (c .before .before .before .before .before .before .before .before .before .before .before .read-grid .ensures) at (c .before .before .before .before .before .before .before .before .before .report .ensures) in
+    told-call (s .grid .now) (s .text .now) (s .written .now) (s .answer .now) (sym (c .before .before .before .before .before .before .before .before .before .before .before .before .before .report-fits .ensures) ∙ not-false _ (c .before .before .before .before .before .before .before .before .before .before .before .before .if1 .left)) _ _ _ _ _ _ (printed .0) (printed .1) (printed .2)
+    (c .before .before .before .before .tell .ensures)
 
 pub report-call-spec : {M : Type 1} → statement M
 report-call-spec =
@@ -39,8 +37,7 @@ report-call-spec =
     returns
     read-grid-requires
     (λ c κs. search needs)
-    put-long-requires
-    (λ c κs. search needs)
+    tell-requires
     (λ c. search needs)
     (λ c. search needs)
     (λ c. search needs)

@@ -2,7 +2,8 @@
 use mathlib.Core.Path.{refl, sym, _∙_}
 use borrow.Author.Needs.{needs}
 use borrow.Author.Tests.{not-true, not-false}
-use Rattle.uisnabar_listing.proofs.CallEnds.{reads-by, unread, told, written-whole, answer-whole}
+use Rattle.reply.proofs.Telling.{wholes, told, left}
+use Rattle.uisnabar_listing.proofs.CallEnds.{reads-by, unread}
 use Rattle.uisnabar_listing.proofs.read_listing_call.Statement.{statement}
 use Rattle.uisnabar_listing.proofs.read_listing_call.Tie as tie
 
@@ -10,19 +11,21 @@ returns : tie.Need-returns
 returns c =
     let s = c .before .before .before .before .before .before .before in
     unread (s .args .text .now) (s .args .program .now) (s .args .written .now) (s .args .answer .now)
-    (sym (c .before .before .buffers-fit .ensures) ∙ not-true _ (c .before .if1 .taken)) (c .misfit .ensures)
+    (sym (c .before .before .told-fits .ensures) ∙ not-true _ (c .before .if1 .taken)) (c .misfit .ensures)
 
 tell-requires : tie.Need-tell-requires
 tell-requires c κs =
-    let s = c .before .before .before .before .before .before .before .before .before .before .before .before in
-    let e = sym (c .before .before .before .before .before .before .before .buffers-fit .ensures) ∙ not-false _ (c .before .before .before .before .before .before .if1 .left) in
-    (written-whole (s .args .written .now) (s .args .answer .now) e, answer-whole (s .args .written .now) (s .args .answer .now) e)
+    let s = c .before .before .before .before .before .before .before .before .before .before .before .before .args in
+    wholes (s .written .now) (s .answer .now) (sym (c .before .before .before .before .before .before .before .told-fits .ensures) ∙ not-false _ (c .before .before .before .before .before .before .if1 .left))
 
 returns-2 : tie.Need-returns-2
 returns-2 c =
-    let s = c .before .before .before .before .before .before .before .before .before .before .before .before .before .before .before .before .before in
-    reads-by (s .args .text .now) (s .args .program .now) (s .args .written .now) (s .args .answer .now) (c .before .before .before .before .before .before .before .before .before .read-listing .result) (c .before .before .before .before .before .before .before .before .before .read-listing .last .1 .0) (c .before .before .before .before .before .before .before .before .before .read-listing .ensures)
-    (told (s .args .written .now) (s .args .answer .now) (sym (c .before .before .before .before .before .before .before .before .before .before .before .before .buffers-fit .ensures) ∙ not-false _ (c .before .before .before .before .before .before .before .before .before .before .before .if1 .left)) (c .before .before .before .before .before .before .before .before .before .read-listing .result) (c .before .before .before .before .before .before .before .before .before .read-listing .last .1 .0) (s .args .program .now) _ _ _ _ refl (c .before .before .before .before .tell .ensures))
+    let s = c .before .before .before .before .before .before .before .before .before .before .before .before .before .before .before .before .before .args in
+    let e = sym (c .before .before .before .before .before .before .before .before .before .before .before .before .told-fits .ensures) ∙ not-false _ (c .before .before .before .before .before .before .before .before .before .before .before .if1 .left) in
+    let did = c .before .before .before .before .before .before .before .before .before .read-listing in
+    reads-by (s .text .now) (s .program .now) (s .written .now) (s .answer .now) (did .result) (did .last .1 .0) (did .ensures)
+    (left (s .written .now) (s .answer .now) e (did .last .1 .0) (s .program .now))
+    (told (s .written .now) (s .answer .now) e (did .result .answer) (did .result .written) _ _ _ (c .before .before .before .before .tell .ensures))
 
 pub read-listing-call-spec : {M : Type 1} → statement M
 read-listing-call-spec =

@@ -1,0 +1,39 @@
+-- A number of draws bit by bit: a bit's own draws, and those that are left.
+-- Assumes nothing.
+use mathlib.Core.Path.{_≡_, sym, _∙_, ap}
+use Prim.Native.Nat.{ℕ, _+_, _*_, _/_, _%_, _^_, _≤_, _<_}
+use native.Mathlib.Omega.{arith}
+use native.Mathlib.Nat.{div-add-mod, pow-suc, one-mul, zero-mul}
+use native.Mathlib.Numerals.{add-one}
+use Rattle.stream_spec.specs.Stream.{advances}
+use Rattle.stream_law.proofs.Advances.{advances-none, advances-add}
+
+-- a number by its halves
+halves : (k p : ℕ) → k * p ≡ k / 2 * (p * 2) + k % 2 * p
+halves k p =
+    let whole : (2 * (k / 2) + k % 2) * p ≡ k * p = ap (λ (x : ℕ). x * p) (div-add-mod k 2) in
+    omega arith
+
+-- one bit done: what is left of the draws, from where the bit led
+pub bit-done : (k i s t : ℕ) → t ≡ advances (k % 2 * 2 ^ i) s → advances (k * 2 ^ i) s ≡ advances (k / 2 * 2 ^ (i + 1)) t
+bit-done k i s t e =
+    rw (add-one i, pow-suc 2 i, e)
+    (ap (λ (n : ℕ). advances n s) (halves k (2 ^ i)) ∙ advances-add (k / 2 * (2 ^ i * 2)) (k % 2 * 2 ^ i) s)
+
+pub falls : (k i : ℕ) → k / 2 * 2 ^ (i + 1) ≤ k * 2 ^ i
+falls k i = rw (add-one i, pow-suc 2 i) (omega (arith, halves k (2 ^ i)))
+
+pub set-bit : (k i s : ℕ) → k % 2 ≡ 1 → advances (2 ^ i) s ≡ advances (k % 2 * 2 ^ i) s
+set-bit k i s h = rw (h, one-mul (2 ^ i))
+
+pub clear-bit : (k i s : ℕ) → (k % 2 ≡ 1 → ⊥) → s ≡ advances (k % 2 * 2 ^ i) s
+clear-bit k i s h =
+    let e : k % 2 ≡ 0 = omega arith in
+    rw (e, zero-mul (2 ^ i)) (sym (advances-none s))
+
+-- past the last bit no draw is left
+pub all-done : (k i s : ℕ) → i ≡ 64 → k * 2 ^ i < 2 ^ 64 → advances (k * 2 ^ i) s ≡ s
+all-done k i s e h =
+    let small : k * 2 ^ 64 < 2 ^ 64 = rw e at h in
+    let none : k * 2 ^ i ≡ 0 = rw e (omega arith) in
+    rw none (advances-none s)

@@ -1,0 +1,37 @@
+-- Advances add up, and the pair of 2^i draws is 2^i advances.
+-- Assumes nothing.
+use mathlib.Core.Path.{_≡_, refl, sym, _∙_, ap}
+use Prim.Native.Nat.{ℕ, zero, suc, _+_, _*_, _%_, _^_, _<_}
+use native.Mathlib.Omega.{arith}
+use native.Mathlib.Nat.{pow-suc, zero-add, suc-add}
+use Rattle.draw.specs.Draw.{advance}
+use Rattle.stream_spec.specs.Stream.{advances}
+use Rattle.stream_spec.specs.Pairs.{applied, doubled, pairOf}
+use Rattle.stream_law.proofs.Modular.{composed}
+
+pub advances-none : (s : ℕ) → advances 0 s ≡ s
+unfolding advances
+advances-none s = refl
+
+pub advances-add : (a b s : ℕ) → advances (a + b) s ≡ advances a (advances b s)
+unfolding advances
+advances-add zero b s = rw (zero-add b)
+advances-add (suc a) b s = rw (suc-add a b) (ap advance (advances-add a b s))
+
+-- a state keeps to 64 bits
+pub whole : (n s : ℕ) → s < 2 ^ 64 → advances n s < 2 ^ 64
+unfolding advances advance
+whole zero s h = h
+whole (suc n) s h = omega arith
+
+pub leaps : (i s : ℕ) → applied (pairOf i) s ≡ advances (2 ^ i) s
+unfolding pairOf doubled advances advance
+leaps zero s = refl
+leaps (suc i) s =
+    let p = pairOf i in
+    let sum : 2 ^ suc i ≡ 2 ^ i + 2 ^ i = pow-suc 2 i ∙ omega arith in
+    sym (composed (p .multiplier) (p .increment) (p .multiplier) (p .increment) (2 ^ 64) s)
+    ∙ ap (applied p) (leaps i s)
+    ∙ leaps i (advances (2 ^ i) s)
+    ∙ sym (advances-add (2 ^ i) (2 ^ i) s)
+    ∙ ap (λ (n : ℕ). advances n s) (sym sum)

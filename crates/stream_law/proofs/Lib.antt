@@ -1,0 +1,4 @@
+pub mod Modular
+pub mod Advances
+pub mod Period
+pub mod Streams

@@ -1,0 +1,3 @@
+pub mod Stream
+pub mod Pairs
+pub mod Host
