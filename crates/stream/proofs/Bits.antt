@@ -1,12 +1,16 @@
 -- A number of draws bit by bit: a bit's own draws, and those that are left.
 -- Assumes nothing.
 use mathlib.Core.Path.{_≡_, sym, _∙_, ap}
+use mathlib.Core.List.{List}
 use Prim.Native.Nat.{ℕ, _+_, _*_, _/_, _%_, _^_, _≤_, _<_}
 use native.Mathlib.Omega.{arith}
 use native.Mathlib.Nat.{div-add-mod, pow-suc, one-mul, zero-mul}
 use native.Mathlib.Numerals.{add-one}
+use lib.ListN.{getD}
 use Rattle.stream_spec.specs.Stream.{advances}
-use Rattle.stream_law.proofs.Advances.{advances-none, advances-add}
+use Rattle.stream_spec.specs.Pairs.{applied, table}
+use Rattle.stream_spec.specs.declared.Pair.{Pair}
+use Rattle.stream_law.proofs.Advances.{advances-none, advances-add, entry, leaps}
 
 -- a number by its halves
 halves : (k p : ℕ) → k * p ≡ k / 2 * (p * 2) + k % 2 * p
@@ -23,8 +27,10 @@ bit-done k i s t e =
 pub falls : (k i : ℕ) → k / 2 * 2 ^ (i + 1) ≤ k * 2 ^ i
 falls k i = rw (add-one i, pow-suc 2 i) (omega (arith, halves k (2 ^ i)))
 
-pub set-bit : (k i s : ℕ) → k % 2 ≡ 1 → advances (2 ^ i) s ≡ advances (k % 2 * 2 ^ i) s
-set-bit k i s h = rw (h, one-mul (2 ^ i))
+pub set-bit : (k i s : ℕ) (pairs : List Pair) (d : Pair) → pairs ≡ table → i < 64 → k % 2 ≡ 1
+    → applied (getD pairs i d) s ≡ advances (k % 2 * 2 ^ i) s
+set-bit k i s pairs d is small h =
+    rw (h, one-mul (2 ^ i)) (ap (λ (p : Pair). applied p s) (ap (λ (xs : List Pair). getD xs i d) is ∙ entry i d small) ∙ leaps i s)
 
 pub clear-bit : (k i s : ℕ) → (k % 2 ≡ 1 → ⊥) → s ≡ advances (k % 2 * 2 ^ i) s
 clear-bit k i s h =

@@ -2,32 +2,32 @@
 use answer::Answer;
 use draw::Generator;
 use draw::wrapping_product;
-use stream_pairs::pair_at;
+use stream_pairs::pairs;
+use stream_spec::Pair;
 use stream_spec::Started;
 ghost use mathlib.Core.Path.{_≡_};
-ghost use Prim.Native.Nat.{_^_, _<_};
-ghost use Rattle.stream_spec.specs.Stream.{advances, after};
+ghost use Rattle.stream_spec.specs.Stream.{after};
+ghost use Rattle.stream_spec.specs.Pairs.{applied};
 ghost use Rattle.stream_spec.specs.Host.{startOf};
 
-// 2^i draws at once.
-fn leap(s: u64, i: usize) -> u64
-    requires { ⌜ i < 64 ⌝ }
-    ensures { λ r. ⌜ r ≡ advances (2 ^ i) s ⌝ }
+// A pair applied to a state.
+fn apply(pair: Pair, s: u64) -> u64
+    ensures { λ r. ⌜ r ≡ applied pair s ⌝ }
 {
-    let pair = pair_at(i);
     std::num::wrapping_add_u64(wrapping_product(pair.multiplier, s), pair.increment)
 }
 
-// The generator so many draws further on: a leap for each bit of the number.
+// The generator so many draws further on: the table's pair of 2^i draws for each bit i of the number.
 pub fn jump(generator: Generator, draws: u64) -> Generator
     ensures { λ r. ⌜ r ≡ after draws generator ⌝ }
 {
+    let table = pairs();
     let mut s = generator.state;
     let mut left = draws;
     let mut i = 0;
     while i < 64 {
         if left % 2 == 1 {
-            s = leap(s, i);
+            s = apply(table[i], s);
         }
         left = left / 2;
         i += 1;

@@ -3,15 +3,17 @@
 use mathlib.Core.Path.{_≡_, refl, sym, _∙_, ap}
 use Prim.Native.Nat.{ℕ, suc, _+_, _*_, _^_, _≤_, _<_}
 use native.Mathlib.Omega.{arith}
+use lib.ListN.{length, getD}
 use borrow.Author.Tests.{lt-ltb, le-ltb}
 use Rattle.answer.specs.declared.Answer.the-variants.{Accepted, Host}
 use Rattle.draw.specs.Draw.{drawOf}
 use Rattle.draw.specs.declared.Generator.{Generator}
 use Rattle.stream_spec.specs.Stream.{advances, after, drawAt}
-use Rattle.stream_spec.specs.Pairs.{doubled, pairOf}
+use Rattle.stream_spec.specs.Pairs.{doubled, pairsFrom, table, pairOf}
+use Rattle.stream_spec.specs.declared.Pair.{Pair}
 use Rattle.stream_spec.specs.Host.{hosts, ownDraws, startOf}
 use Rattle.stream_law.specs.Streams.{Whole, Streams}
-use Rattle.stream_law.proofs.Advances.{advances-none, advances-add, leaps}
+use Rattle.stream_law.proofs.Advances.{advances-none, advances-add, entry, leaps}
 use Rattle.stream_law.proofs.Period.{pair-after, leads-back, one-place}
 use Rattle.stream_law.proofs.Period as period
 
@@ -21,6 +23,10 @@ at s = record { state = s }
 one-more : (n : ℕ) (g : Generator) → after (suc n) g ≡ drawOf (after n g) .next
 unfolding advances
 one-more n g = refl
+
+table-entry : (i : ℕ) (d : Pair) → i < length table → getD table i d ≡ pairOf i
+unfolding pairsFrom
+table-entry i d h = entry i d h
 
 pair-after-last : doubled (pairOf 63) ≡ record { multiplier = 1; increment = 0 }
 unfolding pairOf
@@ -63,6 +69,7 @@ pub streams : Streams
 streams = record {
   no-draw = λ g. ap at (advances-none (g .state));
   one-more = one-more;
+  table-entry = table-entry;
   pair-of-draws = λ i s. ap at (sym (leaps i s));
   pair-after-last = pair-after-last;
   two-jumps = λ j k g w. ap at (period.two-jumps j k (g .state) w);

@@ -6,11 +6,13 @@
 use Prim.Native.Nat.{ℕ, suc, _+_, _*_, _%_, _^_, _≤_, _<_}
 use mathlib.Core.Logic.{_↔_}
 use mathlib.Core.Path.{_≡_}
+use lib.ListN.{length, getD}
 use Rattle.answer.specs.declared.Answer.the-variants.{Accepted, Host}
 use Rattle.draw.specs.Draw.{drawOf}
 use Rattle.draw.specs.declared.Generator.{Generator}
 use Rattle.stream_spec.specs.Stream.{after, drawAt}
-use Rattle.stream_spec.specs.Pairs.{applied, doubled, pairOf}
+use Rattle.stream_spec.specs.Pairs.{applied, doubled, table, pairOf}
+use Rattle.stream_spec.specs.declared.Pair.{Pair}
 use Rattle.stream_spec.specs.Host.{hosts, ownDraws, startOf}
 
 -- a state of 64 bits
@@ -21,7 +23,8 @@ pub record Streams : Type 0 where
   -- a jump of 0 is nothing, and one draw more leads one draw further: so a jump of j is j single draws
   pub no-draw : (g : Generator) → after 0 g ≡ g
   pub one-more : (n : ℕ) (g : Generator) → after (suc n) g ≡ drawOf (after n g) .next
-  -- a pair of the table is that many draws at once, and the one after the last is multiplier 1, increment 0
+  -- entry i of the table is the pair of 2^i draws at once, and the pair after the last is multiplier 1, increment 0
+  pub table-entry : (i : ℕ) (d : Pair) → i < length table → getD table i d ≡ pairOf i
   pub pair-of-draws : (i s : ℕ) → after (2 ^ i) (record { state = s }) ≡ record { state = applied (pairOf i) s }
   pub pair-after-last : doubled (pairOf 63) ≡ record { multiplier = 1; increment = 0 }
   -- two jumps are one, of the sum modulo 2^64

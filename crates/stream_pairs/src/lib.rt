@@ -1,8 +1,7 @@
 // The table of the 64 doubled pairs: entry i is 2^i draws at once. Document 02, M-106.
 use stream_spec::Pair;
 ghost use mathlib.Core.Path.{_≡_};
-ghost use Prim.Native.Nat.{_<_};
-ghost use Rattle.stream_spec.specs.Pairs.{pairOf};
+ghost use Rattle.stream_spec.specs.Pairs.{table};
 
 const PAIRS: [Pair; 64] = [
     Pair {
@@ -263,9 +262,9 @@ const PAIRS: [Pair; 64] = [
     },
 ];
 
-pub fn pair_at(i: usize) -> Pair
-    requires { ⌜ i < 64 ⌝ }
-    ensures { λ r. ⌜ r ≡ pairOf i ⌝ }
+// All of them at once, so that a jump lays them out once.
+pub fn pairs() -> [Pair; 64]
+    ensures { λ r. ⌜ r ≡ table ⌝ }
 {
-    PAIRS[i]
+    PAIRS
 }

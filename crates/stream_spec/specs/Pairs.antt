@@ -1,6 +1,7 @@
 -- Document 02, M-106: the doubled multiplier and increment pairs.
 -- Declared in src/: Pair (here).
 use Prim.Native.Nat.{ℕ, zero, suc, _+_, _*_, _%_, _^_}
+use mathlib.Core.List.{List, [], _∷_}
 use Rattle.stream_spec.specs.declared.Pair.{Pair}
 
 -- a pair applied to a state
@@ -19,7 +20,16 @@ doubled p =
       increment = (p .multiplier * p .increment + p .increment) % 2 ^ 64;
     }
 
--- the table's rule: the first is a draw's own, each other the one before it, doubled
+-- n pairs from p on, each the one before it, doubled: the table's rule
+unfoldable pub pairsFrom : Pair → ℕ → List Pair
+pairsFrom p zero = []
+pairsFrom p (suc n) = p ∷ pairsFrom (doubled p) n
+
+-- the table: 64 pairs, the first of which is a draw's own
+abbrev pub table : List Pair
+table = pairsFrom drawPair 64
+
+-- the pair of 2^i draws
 unfoldable pub pairOf : ℕ → Pair
 pairOf zero = drawPair
 pairOf (suc i) = doubled (pairOf i)

@@ -11,21 +11,24 @@ use Rattle.stream.proofs.jump.Statement.{statement}
 use Rattle.stream.proofs.jump.Tie as tie
 
 abbrev Inv-loop : tie.InvT-loop
-Inv-loop draws s₀ left₀ i₀ s left i =
+Inv-loop draws pairs s₀ left₀ i₀ s left i =
     (i ≤ 64) × (left * 2 ^ i < 2 ^ 64) × (advances draws s₀ ≡ advances (left * 2 ^ i) s)
 
 abbrev μ-loop : tie.MeasureT-loop
-μ-loop draws s₀ left₀ i₀ s left i = 64 - i
+μ-loop draws pairs s₀ left₀ i₀ s left i = 64 - i
 
 loop-holds : tie.Need-loop-holds Inv-loop μ-loop
 loop-holds c =
-    (search needs, omega arith, ap (λ (n : ℕ). advances n (c .args .generator .state)) (sym (mul-one (c .args .draws))))
+    let s = c .before .args in
+    (search needs, omega arith, ap (λ (n : ℕ). advances n (s .generator .state)) (sym (mul-one (s .draws))))
 
 loop-again : tie.Need-loop-again Inv-loop μ-loop
 loop-again c =
     let l = c .before .before .loop in
+    let laid = c .before .before .before .pairs in
     let led : c .if1 .s ≡ advances (l .left % 2 * 2 ^ l .i) (l .s) =
-    ⊎-elim (λ w. w .2 ∙ w .1 .ensures ∙ set-bit (l .left) (l .i) (l .s) (w .0 .taken)) (λ w. w .1 ∙ clear-bit (l .left) (l .i) (l .s) (w .0 .left)) (c .if1 .came)
+    ⊎-elim (λ w. w .3 ∙ w .2 .ensures ∙ set-bit (l .left) (l .i) (l .s) (laid .result) _ (laid .ensures) (search needs) (w .0 .taken))
+    (λ w. w .1 ∙ clear-bit (l .left) (l .i) (l .s) (w .0 .left)) (c .if1 .came)
     in
     (search needs, omega (arith, falls (l .left) (l .i)), l .inv .2 ∙ bit-done (l .left) (l .i) (l .s) (c .if1 .s) led)
 
@@ -38,4 +41,15 @@ returns c =
 pub jump-spec : {M : Type 1} → statement M
 jump-spec =
     tie.close
-    (tie.spec Inv-loop μ-loop loop-holds (λ c κs. search needs) (λ c. search needs) (λ c. search needs) loop-again returns)
+    (tie.spec
+    Inv-loop
+    μ-loop
+    (λ c κs. search needs)
+    loop-holds
+    (λ c. search needs)
+    (λ c. search needs)
+    (λ c κs. search needs)
+    (λ c. search needs)
+    (λ c. search needs)
+    loop-again
+    returns)
