@@ -1,5 +1,5 @@
 /* Uisnabar's C library: the judge of leanVM tables, counts of the instruction forms that they reach, programs from
- * draft 0.5.0, listings of programs, and the reader of labels.
+ * draft 0.5.0, listings of programs, streams of many hosts from one seed, and the reader of labels.
  *
  * Link with libuisnabar.a, as `./bench lib` builds it (x86-64, System V calls); where it is installed, pkg-config
  * knows it as uisnabar. Every function returns; they keep nothing between calls and use no heap; they may be called
@@ -29,7 +29,7 @@
 #include <stdint.h>
 
 /* The version of this header and of the library it was made for. */
-#define UISNABAR_VERSION "3.1.0"
+#define UISNABAR_VERSION "3.2.0"
 /* The length of `answer`, and of `recipe`. Later versions may ask for more: use these names, and no number. */
 #define UISNABAR_ANSWER_BYTES 24
 #define UISNABAR_RECIPE_BYTES 20
@@ -39,6 +39,9 @@
 #define UISNABAR_REPORT_BYTES 5076
 /* The longest line of a listing, its LF too: a listing of L instructions has at most L times so many bytes. */
 #define UISNABAR_LINE_BYTES 77
+/* The length of `next`; and how many hosts there are, 2^24: they are 0 to UISNABAR_HOSTS - 1. */
+#define UISNABAR_NEXT_BYTES 8
+#define UISNABAR_HOSTS 16777216
 /* A call uses no more stack than this; uisnabar_count, which holds a grid beside the judge, no more than the second. */
 #define UISNABAR_STACK_BYTES 24576
 #define UISNABAR_COUNT_STACK_BYTES 25600
@@ -70,7 +73,8 @@ enum uisnabar_verdict {
     UISNABAR_GRID = 14,       /* the counters' total would pass 2^63 - 1 */
     UISNABAR_EDITION = 15,    /* place: the first instruction of draft 0.5.0 that is not translatable */
     UISNABAR_LISTING = 16,    /* place: longest prefix shared with any valid listing */
-    UISNABAR_SHORT = 17       /* place: bytes that the buffer for a listing, or for its program, would need */
+    UISNABAR_SHORT = 17,      /* place: bytes that the buffer for a listing, or for its program, would need */
+    UISNABAR_HOST = 18        /* a host's number is at or above UISNABAR_HOSTS */
 };
 
 /* A verdict's name. */
@@ -95,6 +99,7 @@ static inline const char *uisnabar_name(uint32_t verdict)
     case UISNABAR_EDITION: return "EDITION";
     case UISNABAR_LISTING: return "LISTING";
     case UISNABAR_SHORT: return "SHORT";
+    case UISNABAR_HOST: return "HOST";
     }
     return "unknown";
 }
@@ -208,6 +213,37 @@ uint32_t uisnabar_list(const uint8_t *program, size_t program_len, uint8_t *text
  */
 uint32_t uisnabar_read_listing(const uint8_t *text, size_t text_len, uint8_t *program, size_t program_len,
                                uint8_t *written, size_t written_len, uint8_t *answer, size_t answer_len);
+
+/* A jump: the generator after any number of draws, without drawing them. A draw advances its state s to
+ * 6364136223846793005·s + 1442695040888963407 modulo 2^64, and a seed is the first state. A jump of j draws equals j
+ * single ones; a jump of j and then of k equals one of j + k modulo 2^64.
+ *
+ *   state    a seed, or the state that any draws left
+ *   draws    how far on. Both are 64 bits wide and taken whole, whatever they are: nothing is cut
+ *   next     UISNABAR_NEXT_BYTES, little-endian: the state after so many draws, which is a seed as well
+ *   answer   UISNABAR_ANSWER_BYTES, written on every verdict but ANSWER
+ *
+ * Returns ACCEPTED; or ANSWER where next_len or answer_len is another; nothing is written then.
+ */
+uint32_t uisnabar_jump(uint64_t state, uint64_t draws, uint8_t *next, size_t next_len,
+                       uint8_t *answer, size_t answer_len);
+
+/* Streams from one seed: the seed with which a host of a campaign begins, host·2^40 draws on from the campaign's. Host
+ * 0 begins with the campaign's seed itself. The first 2^40 draws of one host and those of another do not overlap.
+ *
+ *   seed     the campaign's; 64 bits wide and taken whole
+ *   host     0 to UISNABAR_HOSTS - 1; 64 bits wide and compared whole: any other number gives HOST, and none is cut
+ *   next     UISNABAR_NEXT_BYTES, little-endian: the host's seed; on HOST the seed as it came
+ *   answer   UISNABAR_ANSWER_BYTES, written on every verdict but ANSWER
+ *
+ * Returns ACCEPTED; HOST; or ANSWER, tested first, where next_len or answer_len is another; nothing is written then.
+ * As `next` is written on HOST too, a driver looks at the verdict before it takes the seed.
+ *
+ * A label draws at most 660 times (docs/VERDICTS.md, "Streams from one seed"). So a host that makes its labels' seeds
+ * by jumps of 1024 draws from its own has 2^30 labels, no two of which share a draw.
+ */
+uint32_t uisnabar_host(uint64_t seed, uint64_t host, uint8_t *next, size_t next_len,
+                       uint8_t *answer, size_t answer_len);
 
 /* The label reader.
  *
