@@ -47,7 +47,13 @@ int report_forms(int count, char **words);
 int translate(int count, char **words);
 int list(int count, char **words);
 int assemble(int count, char **words);
+int host(int count, char **words);
+int jump(int count, char **words);
 int label(int count, char **words);
+
+/* numbers.c: a decimal number, by the name that its sentence has, and a seed; 0, or FAILED with the sentence said */
+int take_number(const char *name, const char *text, uint64_t *found);
+int take_seed(const char *text, uint64_t *found);
 
 /* tables.c: a subcommand's words, and the tables in the files that they name; 0, or FAILED with the sentence said */
 #define TABLES "PROGRAM MEMORY EXEC EXT, or TABLES alone"

@@ -19,6 +19,8 @@ static const char help[] =
     "       uisnabar translate OLD NEW\n"
     "       uisnabar list PROGRAM\n"
     "       uisnabar assemble LISTING PROGRAM\n"
+    "       uisnabar host SEED K\n"
+    "       uisnabar jump SEED DRAWS\n"
     "       uisnabar label [FILE]\n"
     "       uisnabar --version | --help\n"
     "\n"
@@ -45,10 +47,17 @@ static const char help[] =
     "        PROGRAM becomes the program that LISTING stands for, and is replaced whole, and only with status 0. It may not\n"
     "        be LISTING itself. Of a text that is no listing the sentence has the line and column at which it leaves every\n"
     "        valid one, and what is expected there (docs/LISTING.md has the grammar).\n"
+    "host    The seed with which host K of a campaign begins: K times 2^40 draws on from SEED, K from 0 to 16777215. Host 0\n"
+    "        begins with SEED itself, and no two hosts share one of their first 2^40 draws. For any other K standard output\n"
+    "        has nothing, and the answer's lines stand on standard error, before the sentence.\n"
+    "jump    The seed that is DRAWS draws on from SEED. A label draws at most 660 times, so a host takes a jump of 1024 from\n"
+    "        one label's seed to the next label's.\n"
+    "          SEED             16 lower-case hex digits, as stand behind a label's seed=\n"
+    "          K, DRAWS         decimal, 0 to 18446744073709551615; all 64 bits count\n"
     "label   Is the text a label, of version 1 or 2? The sentence has its version, seed, m and n, or what the first line that\n"
     "        does not fit must be. Without FILE it is read from standard input.\n"
     "\n"
-    "Standard output has the answer's six lines, as the replay program prints them, or the report, or the listing;\n"
+    "Standard output has the answer's six lines, as the replay program prints them, or the report, the listing or the seed;\n"
     "standard error one sentence that says what they mean. Where a lookup is refused, expected= is the word that the\n"
     "memory's cell holds and found= the word that the table's column has, and the sentence names the cell and the column.\n"
     "Both are 0 where a cell that is looked up is not below M, the number of cells, which the sentence says too; and of\n"
@@ -62,7 +71,8 @@ static const struct {
     const char *name;
     int (*run)(int count, char **words);
 } commands[] = {{"judge", judge}, {"count", count_forms}, {"report", report_forms}, {"translate", translate},
-                {"list", list},   {"assemble", assemble}, {"label", label}};
+                {"list", list},   {"assemble", assemble}, {"host", host},           {"jump", jump},
+                {"label", label}};
 enum { COMMANDS = sizeof commands / sizeof commands[0] };
 
 int failed(const char *format, ...)

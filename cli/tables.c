@@ -7,28 +7,6 @@
 enum { TABLE_MEMORY = 4 * 1024, TABLE_EXEC = 32 * 256, TABLE_EXT = 120 * 256 };
 enum { TABLE_REST = TABLE_MEMORY + TABLE_EXEC + TABLE_EXT };
 
-/* decimal digits and nothing else, at most 2^64 - 1 */
-static bool number(const char *text, uint64_t *found)
-{
-    *found = 0;
-    if (!*text)
-        return false;
-    for (; *text; text++) {
-        uint64_t digit = (uint64_t)(*text - '0');
-        if (*text < '0' || *text > '9' || *found > (UINT64_MAX - digit) / 10)
-            return false;
-        *found = 10 * *found + digit;
-    }
-    return true;
-}
-
-static int start_number(const char *name, const char *text, uint64_t *found)
-{
-    if (number(text, found))
-        return 0;
-    return failed("%s takes a decimal number from 0 to 18446744073709551615, not \"%s\"", name, text);
-}
-
 static int add_file(struct request *request, const char *path)
 {
     if (request->count == request->grids + PARTS - 1)
@@ -45,9 +23,9 @@ static int parse(int count, char **words, struct request *request)
         if (options && strcmp(words[i], "--") == 0)
             options = false;
         else if (options && strcmp(words[i], "--pc") == 0)
-            status = start_number("--pc", ++i < count ? words[i] : "", &request->given.pc);
+            status = take_number("--pc", ++i < count ? words[i] : "", &request->given.pc);
         else if (options && strcmp(words[i], "--fp") == 0)
-            status = start_number("--fp", ++i < count ? words[i] : "", &request->given.fp);
+            status = take_number("--fp", ++i < count ? words[i] : "", &request->given.fp);
         else if (options && request->grids == 0 && strcmp(words[i], "--paste") == 0)
             request->paste = true;
         else if (options && words[i][0] == '-' && words[i][1])
