@@ -69,6 +69,22 @@ extern "C" {
         answer: *mut u8,
         answer_len: usize,
     ) -> u32;
+    pub fn uisnabar_jump(
+        state: u64,
+        draws: u64,
+        next: *mut u8,
+        next_len: usize,
+        answer: *mut u8,
+        answer_len: usize,
+    ) -> u32;
+    pub fn uisnabar_host(
+        seed: u64,
+        host: u64,
+        next: *mut u8,
+        next_len: usize,
+        answer: *mut u8,
+        answer_len: usize,
+    ) -> u32;
     pub fn uisnabar_label(
         text: *const u8,
         text_len: usize,

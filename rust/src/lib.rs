@@ -1,5 +1,6 @@
 //! The proved judge of leanVM tables, counts of the instruction forms that they reach, programs from draft 0.5.0,
-//! listings of programs, and the reader of labels, from libuisnabar.a, without `unsafe` for the caller.
+//! listings of programs, streams of many hosts from one seed, and the reader of labels, from libuisnabar.a, without
+//! `unsafe` for the caller.
 //!
 //! include/uisnabar.h documents each function, docs/VERDICTS.md every answer. A call of the library keeps nothing, uses
 //! no heap and at most [`STACK_BYTES`] of stack, [`count`] at most [`COUNT_STACK_BYTES`], and may be made from several
@@ -14,18 +15,23 @@
 //! assert_eq!(uisnabar::translate(&[0; 56]).unwrap_err().name(), "EDITION");
 //! let program = uisnabar::read_listing(b"op=jump a=imm:1 b=imm:0 c=fp:0\n").unwrap();
 //! assert_eq!(uisnabar::list(&program).unwrap(), "op=jump a=imm:1 b=imm:0 c=fp:0\n");
+//! let seed = uisnabar::host(0x1_2fff_ffff, 5).unwrap();
+//! assert_eq!((seed, uisnabar::jump(0x1_2fff_ffff, 5 << 40)), (0x6026_2501_2fff_ffff, seed));
+//! assert_eq!(uisnabar::host(0x1_2fff_ffff, uisnabar::HOSTS).unwrap_err().name(), "HOST");
 //! let recipe = uisnabar::read_label(b"v=2\nseed=000000012fffffff\nm=10\nn=12\n").unwrap();
 //! assert_eq!((recipe.version, recipe.seed, recipe.m, recipe.n), (2, 0x1_2fff_ffff, 10, 12));
 //! ```
 
 mod calls;
 mod listings;
+mod streams;
 
 use std::error::Error;
 use std::fmt;
 
 use calls::{uisnabar_count, uisnabar_judge, uisnabar_label, uisnabar_report, uisnabar_translate};
 pub use listings::{list, read_listing};
+pub use streams::{host, jump};
 
 /// The version of the library that this crate is written for, `UISNABAR_VERSION`.
 pub const VERSION: &str = env!("CARGO_PKG_VERSION");
@@ -39,17 +45,20 @@ pub const GRID_BYTES: usize = 1080;
 pub const REPORT_BYTES: usize = 5076;
 /// No line of a listing is longer than this, its LF too.
 pub const LINE_BYTES: usize = 77;
+/// How many hosts there are: they are 0 to `HOSTS - 1`.
+pub const HOSTS: u64 = 16777216;
 
 const ANSWER_BYTES: usize = 24;
 const RECIPE_BYTES: usize = 20;
 const WRITTEN_BYTES: usize = 8;
+const NEXT_BYTES: usize = 8;
 // An instruction of draft 0.5.0 and of draft 0.6.0, and how many a program may have.
 const OLD_INSTRUCTION: usize = 56;
 const INSTRUCTION: usize = 48;
 const MOST_INSTRUCTIONS: usize = 1 << 20;
 
 /// The verdicts by number.
-pub const NAMES: [&str; 18] = [
+pub const NAMES: [&str; 19] = [
     "ACCEPTED",
     "SIZE",
     "WORD",
@@ -68,12 +77,13 @@ pub const NAMES: [&str; 18] = [
     "EDITION",
     "LISTING",
     "SHORT",
+    "HOST",
 ];
 const ACCEPTED: u32 = 0;
 const ANSWER: u32 = 13;
 
-/// Why tables, a program, a listing or a label were refused: the six numbers of docs/VERDICTS.md. The verdict is never
-/// 0.
+/// Why tables, a program, a listing, a host or a label were refused: the six numbers of docs/VERDICTS.md. The verdict is
+/// never 0.
 #[derive(Clone, Copy, Debug, PartialEq, Eq, Hash)]
 pub struct Refusal {
     pub verdict: u32,
