@@ -4,7 +4,6 @@ import os
 import pathlib
 import re
 import shutil
-import subprocess
 
 import oracle
 import shelf
@@ -97,24 +96,27 @@ def no_words():
             could_not(f"{name} {text!r}", run(name, FINE, text), f"{second} takes a decimal number from 0 to 18446744073709551615, not ")
         for text in NO_SEED:
             for number in ("1", "none"):
-                could_not(f"{name} of {text!r}", run(name, text, number), "SEED takes 16 lower-case hex digits, as stand behind a label's seed=, not ")
+                could_not(f"{name} of {text!r}", run(name, text, number), "SEED takes 16 lower-case hex digits, as stand behind a label's seed=")
         for given in ((), (FINE,), ("1",), (FINE, "1", "2"), ("--", FINE, "1"), ("--paste", FINE, "1"), (FINE, "1", "--help"), ("-v",)):
-            could_not(f"{name} {given}", run(name, *given), f"{name} takes two words, SEED and {second}, and no option: {len(given)} were handed in")
+            about = f"{name} takes two words, SEED and {second}, and no option: {len(given)} were handed in"
+            could_not(f"{name} {given}", run(name, *given), about)
+
+
+def without(stream, *words):
+    """The same of the command with a stream closed."""
+    return run('exec "$@" ' + stream, "sh", *COMMAND, *words, command=["sh", "-c"])
 
 
 def unwritten():
     """A seed that cannot be written is status 2; a refusal writes none, and is one wherever it goes."""
-    closed = ["sh", "-c", 'exec "$@" >&-', "sh", *COMMAND]
     for words in (("host", FINE, "5"), ("jump", FINE, "1024"), ("jump", FINE, "0")):
         unwritable(words)
-        done = subprocess.run([*closed, *words], capture_output=True, timeout=120, check=False)
-        could_not(f"{words} to closed output", (done.returncode, done.stdout, done.stderr.decode()), "standard output cannot be written: Bad file")
-        done = subprocess.run(["sh", "-c", 'exec "$@" 2>&-', "sh", *COMMAND, *words], capture_output=True, timeout=120, check=False)
-        check(f"{words} without standard error", (done.returncode, len(done.stdout)), (0, 17))
+        could_not(f"{words} to closed output", without(">&-", *words), "standard output cannot be written: Bad file")
+        check(f"{words} without standard error", without("2>&-", *words)[1:], (run(*words)[1], ""))
+    refused = hosted(int(FINE, 16), HOSTS)
+    check("a refusal to closed output", without(">&-", "host", FINE, str(HOSTS)), refused)
     with open("/dev/full", "wb") as full:
-        check("a refusal to a full disk", run("host", FINE, str(HOSTS), stdout=full)[::2], hosted(int(FINE, 16), HOSTS)[::2])
-    done = subprocess.run([*closed, "host", FINE, str(HOSTS)], capture_output=True, timeout=120, check=False)
-    check("a refusal to closed output", (done.returncode, done.stderr.decode()), hosted(int(FINE, 16), HOSTS)[::2])
+        check("a refusal to a full disk", run("host", FINE, str(HOSTS), stdout=full)[::2], refused[::2])
 
 
 def scripted(script):
@@ -122,10 +124,10 @@ def scripted(script):
     shutil.rmtree("streams", ignore_errors=True)
     os.mkdir("streams")
     command = " ".join(f"'{word}'" for word in COMMAND)
-    done = subprocess.run(["sh", "-c", f'uisnabar() {{ {command} "$@"; }}\n{script}'], cwd="streams", capture_output=True, timeout=120, check=False)
+    told_so = run(f'uisnabar() {{ {command} "$@"; }}\n{script}', command=["sh", "-c"], cwd="streams")
     found = {tuple(int(number) for number in re.findall(r"\d+", str(path))): path.read_bytes()
              for path in pathlib.Path("streams").glob("host-*/*.label")}
-    return done.returncode, done.stdout, done.stderr.decode(), found
+    return *told_so, found
 
 
 def seed_of(host, number):

@@ -4,6 +4,7 @@
 . tests/customers/shelves.sh
 . tests/customers/forms.sh
 . tests/customers/handed.sh
+. tests/customers/trees.sh
 
 faults=0
 
@@ -91,7 +92,7 @@ customers() {
     scratch
     local part
     for part in statuses inputs unwritable usages links shelves shelf_faults shelf_time records disagreement \
-        shelf_old shelf_forms forms_folders forms_statuses figures answer_named lookups listings stack_figure installed tarball rust_crate; do
+        shelf_old shelf_forms forms_folders forms_statuses figures answer_named lookups listings streams stack_figure installed tarball rust_crate; do
         "$part"
     done
     echo "what customers hold: $faults faults"

@@ -13,7 +13,7 @@ enum { VERSION = 2 }; /* the byte of it that is its version */
 /* an instruction of draft 0.5.0 and of draft 0.6.0: an ADD of cells 1 and 3 that gives cell 2 */
 static const uint8_t old[56] = {[0] = 1, [4] = 2, [8] = 3, [24] = 1}, program[48] = {[0] = 1, [4] = 2, [8] = 3, [40] = 1};
 static struct {
-    uint8_t answer[MOST], recipe[MOST], grid[MOST], written[MOST], program[MOST];
+    uint8_t answer[MOST], recipe[MOST], grid[MOST], written[MOST], program[MOST], next[MOST];
 } lent;
 
 /* Calls in which one buffer has the length and the others have theirs. */
@@ -51,6 +51,14 @@ static uint32_t translate_answer(size_t len)
 {
     return uisnabar_translate(old, sizeof old, lent.program, sizeof program, lent.answer, len);
 }
+
+static uint32_t jump_next(size_t len) { return uisnabar_jump(1, 2, lent.next, len, lent.answer, UISNABAR_ANSWER_BYTES); }
+
+static uint32_t jump_answer(size_t len) { return uisnabar_jump(1, 2, lent.next, UISNABAR_NEXT_BYTES, lent.answer, len); }
+
+static uint32_t host_next(size_t len) { return uisnabar_host(1, UISNABAR_HOSTS, lent.next, len, lent.answer, UISNABAR_ANSWER_BYTES); }
+
+static uint32_t host_answer(size_t len) { return uisnabar_host(1, UISNABAR_HOSTS, lent.next, UISNABAR_NEXT_BYTES, lent.answer, len); }
 
 static uint32_t label_answer(size_t len)
 {
@@ -159,6 +167,10 @@ int main(void)
     lengths("report's written", report_written);
     lengths("report's answer", report_answer);
     lengths("translate's answer", translate_answer);
+    lengths("jump's next", jump_next);
+    lengths("jump's answer", jump_answer);
+    lengths("host's next", host_next);
+    lengths("host's answer", host_answer);
     for (text[VERSION] = '1'; text[VERSION] <= '2'; text[VERSION]++) {
         lengths("label's answer", label_answer);
         lengths("label's recipe", label_recipe);
@@ -170,7 +182,7 @@ int main(void)
         printf("verdict %u %s\n", (unsigned)verdict, uisnabar_name(verdict));
     printf("answer %d\nrecipe %d\ngrid %d\nwritten %d\nreport %d\n", UISNABAR_ANSWER_BYTES, UISNABAR_RECIPE_BYTES, UISNABAR_GRID_BYTES,
            UISNABAR_WRITTEN_BYTES, UISNABAR_REPORT_BYTES);
-    printf("line %d\n", UISNABAR_LINE_BYTES);
+    printf("line %d\nnext %d\nhosts %d\n", UISNABAR_LINE_BYTES, UISNABAR_NEXT_BYTES, UISNABAR_HOSTS);
     printf("stack %d\ncount_stack %d\nversion %s\n", UISNABAR_STACK_BYTES, UISNABAR_COUNT_STACK_BYTES, UISNABAR_VERSION);
     return 0;
 }

@@ -1,11 +1,11 @@
-# What customers are handed: the header's figures, drivers, an installed tree, the tarball, the crate for Rust.
-# Sourced by tests/customers.sh.
+# What customers are handed: the header's figures, drivers, an installed tree, the tarball, the crate for Rust. What a
+# tree must hold is tests/customers/trees.sh. Sourced by tests/customers.sh.
 
 # figure NAME: what the header says, as the compiler sees it
 figure() { sed -n "s/^$1 //p" "$work/figures"; }
 
 # rust_figure FILE NAME: a constant of a Rust file
-rust_figure() { sed -n "s/^\(pub \)\?const $2: usize = \([0-9]*\);$/\2/p" "$1"; }
+rust_figure() { sed -n "s/^\(pub \)\?const $2: \(usize\|u64\) = \([0-9]*\);$/\3/p" "$1"; }
 
 # lengths: what tests/customers/figures.c must find, by the header's figures: the one length of each buffer that has one
 lengths() {
@@ -17,6 +17,12 @@ lengths() {
         echo "length report's $name $(figure "$name") SIZE"
     done
     echo "length translate's answer $(figure answer) ACCEPTED"
+    for name in next answer; do
+        echo "length jump's $name $(figure "$name") ACCEPTED"
+    done
+    for name in next answer; do
+        echo "length host's $name $(figure "$name") HOST"
+    done
     for name in v=1 v=2; do
         echo "length label's answer $(figure answer) ACCEPTED"
         echo "length label's recipe $(figure recipe) ACCEPTED"
@@ -40,8 +46,9 @@ figures() {
     compile "$work/figures-program" -Iinclude tests/customers/figures.c target/staticlib/libuisnabar.a &&
         emulated "$work/figures-program" >"$work/figures" || fault "the program that reads the header's figures failed"
     equal "lengths that the library takes" "$(grep '^length\|^label\|^longest\|^room\|^instructions' "$work/figures")" "$(lengths)"
-    # document 02, M-103 and M-104
+    # document 02, M-103, M-104 and M-106
     equal "the lengths of an answer and of a recipe" "$(figure answer) $(figure recipe)" '24 20'
+    equal "the length of a state, and the hosts" "$(figure next) $(figure hosts)" "8 $((1 << 24))"
     for number in "${!verdicts[@]}"; do
         echo "verdict $number ${verdicts[number]}"
     done | cmp -s - <(grep ^verdict "$work/figures") || fault "the header has other verdicts than tools/answers.sh"
@@ -49,9 +56,10 @@ figures() {
         equal "$file, answer" "$(rust_figure "$file" ANSWER_BYTES)" "$(figure answer)"
         equal "$file, recipe" "$(rust_figure "$file" RECIPE_BYTES)" "$(figure recipe)"
     done
-    for name in stack count_stack grid written report line; do
+    for name in stack count_stack grid written report line next; do
         equal "rust/src/lib.rs, $name" "$(rust_figure rust/src/lib.rs "${name^^}_BYTES")" "$(figure "$name")"
     done
+    equal "rust/src/lib.rs, hosts" "$(rust_figure rust/src/lib.rs HOSTS)" "$(figure hosts)"
     name=$(sed -n '/^pub const NAMES/,/^];/p' rust/src/lib.rs | grep -o '"[A-Z]*"' | tr -d '"' | tr '\n' ' ')
     equal "rust/src/lib.rs, names" "$name" "$(printf '%s ' "${verdicts[@]}")"
     equal "rust/Cargo.toml, version" "$(sed -n 's/^version = "\(.*\)"$/\1/p' rust/Cargo.toml)" "$(figure version)"
@@ -130,6 +138,14 @@ listings() {
     said ' tried, 0 faults'
 }
 
+# what a driver reads of a jump and of a host's start
+streams() {
+    compile "$work/streams-program" -Iinclude tests/customers/streams.c target/staticlib/libuisnabar.a ||
+        fault "tests/customers/streams.c cannot be compiled"
+    gives 0 emulated "$work/streams-program"
+    said ' tried, 0 faults'
+}
+
 # no exported function uses more stack than the header says
 stack_figure() {
     local name bytes limit
@@ -142,89 +158,6 @@ stack_figure() {
         [ "$bytes" -le "$limit" ] || fault "$name uses $bytes bytes of stack, the header says $limit"
     done <"$work/stacks"
 }
-
-# small WORDS..: words below 256 as a part has them
-small() { printf "$(printf '\\%o\\0\\0\\0' "$@")"; }
-
-# reads PREFIX: the command there says a label's version, and which there are
-reads() {
-    printf 'v=2\nseed=000000012fffffff\nm=10\nn=12\n' >"$work/label"
-    gives 0 emulated "$1/bin/uisnabar" label "$work/label"
-    complained 'ACCEPTED: a label of version 2, seed 000000012fffffff, m 10 and n 12'
-    printf 'v=3\nseed=000000012fffffff\nm=10\nn=12\n' >"$work/label"
-    gives 1 emulated "$1/bin/uisnabar" label "$work/label"
-    complained 'line 1 must be v=1 or v=2 (versions 1 and 2 are known)'
-}
-
-# finds PREFIX: the command there says what a refused lookup was of
-finds() {
-    native "$1/bin/uisnabar-table" <"$1/share/uisnabar/shelf/seed-0.label" >"$work/tables" || fault "uisnabar-table failed: $1"
-    spoil "$work/tables" >"$work/spoiled-tables"
-    gives 1 emulated "$1/bin/uisnabar" judge "$work/spoiled-tables"
-    said_file <(printf '%s\n' verdict=5 part=3 place=17 rule=3 expected=335903614 found=335903489)
-    complained 'value B must be the cell at address B; cell 0 holds 335903614, value B is 335903489'
-}
-
-# translates PREFIX: the command there writes a MUL of draft 0.5.0 by fp, and a refused program leaves what was written
-translates() {
-    small 1 2 3 0 0 1 0 1 0 0 0 0 0 0 >"$work/old"
-    small 1 2 0 0 0 0 1 0 1 0 0 0 >"$work/wanted"
-    gives 0 emulated "$1/bin/uisnabar" translate "$work/old" "$work/new"
-    cmp -s "$work/new" "$work/wanted" || fault "another translation: $1"
-    small 1 2 3 0 0 1 0 1 0 0 0 0 0 1 >>"$work/old"
-    gives 1 emulated "$1/bin/uisnabar" translate "$work/old" "$work/new"
-    complained 'EDITION: instruction 1 of the program of draft 0.5.0, at byte 56, is not translatable: AUX_2 must be 0'
-    cmp -s "$work/new" "$work/wanted" || fault "a refused program changed what was written: $1"
-}
-
-# lists PREFIX: the command there assembles a listing and lists it, and a refused one leaves what was written
-lists() {
-    local line='op=mul a=cell:1 b=imm:2 c=fp:3'
-    echo "$line" >"$work/listing"
-    small 1 2 3 0 1 0 1 0 1 0 0 0 >"$work/wanted"
-    gives 0 emulated "$1/bin/uisnabar" assemble "$work/listing" "$work/assembled"
-    cmp -s "$work/assembled" "$work/wanted" || fault "another program: $1"
-    gives 0 emulated "$1/bin/uisnabar" list "$work/assembled"
-    said_file "$work/listing"
-    printf '%s\r\n' "$line" >"$work/listing"
-    gives 1 emulated "$1/bin/uisnabar" assemble "$work/listing" "$work/assembled"
-    said_file <(printf '%s\n' verdict=16 part=0 place=30 rule=0 expected=0 found=0)
-    complained 'LISTING: line 1, column 31: LF, or a digit with which the number does not pass 2130706432, is expected here, not CR'
-    cmp -s "$work/assembled" "$work/wanted" || fault "a refused listing changed what was written: $1"
-}
-
-# holds_tree PREFIX: a driver compiled by pkg-config judges; the programs answer the shelf, and the command counts its
-# forms, says what was found, translates, lists and reads labels; all as in the repository
-holds_tree() {
-    local doc=$1/share/doc/uisnabar shelf=$1/share/uisnabar/shelf flags label
-    flags=$(PKG_CONFIG_PATH=$1/lib/pkgconfig pkg-config --cflags --libs uisnabar) || fault "pkg-config knows no uisnabar"
-    equal "pkg-config's version" "$(PKG_CONFIG_PATH=$1/lib/pkgconfig pkg-config --modversion uisnabar)" "$(version)"
-    # pkg-config puts a backslash before a space
-    eval "compile \"\$work/tree-driver\" \"\$doc/driver.c\" $flags" || { fault "driver.c cannot be compiled in $1"; return 0; }
-    rm -f "$work/tree-grid"
-    for label in "$shelf"/*.label; do
-        native "$1/bin/uisnabar-replay" <"$label" | cmp -s - "${label%.label}.answer" || fault "another answer: $label"
-        native "$1/bin/uisnabar-table" <"$label" >"$work/tables" || fault "uisnabar-table failed: $label"
-        equal "$label" "$(sha256sum <"$work/tables")" "$(cat "${label%.label}.tables")"
-        [ -s "$work/tables" ] || continue
-        gives 0 of "$work/tables" emulated "$work/tree-driver"
-        gives 0 emulated "$1/bin/uisnabar" count "$work/tree-grid" "$work/tables"
-    done
-    gives 0 emulated "$1/bin/uisnabar" report "$work/tree-grid"
-    said_file "$work/report"
-    finds "$1"
-    translates "$1"
-    lists "$1"
-    reads "$1"
-    for label in VERDICTS.md LISTING.md CHANGELOG.md driver.rs; do
-        [ -s "$doc/$label" ] || fault "$doc has no $label"
-    done
-    diff -r shelf "$shelf" >/dev/null || fault "$shelf is not the shelf"
-    gives 0 emulated "$1/bin/uisnabar" --version
-}
-
-# native FILE: a program under the system's loader, on Arm under the kit's
-native() { if [ "$(uname -m)" = x86_64 ]; then "$1"; else loaded "$1"; fi; }
 
 installed() {
     local folder

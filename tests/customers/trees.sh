@@ -1,0 +1,108 @@
+# What an installed tree must hold, and do with no kit on PATH. Sourced by tests/customers.sh.
+
+# small WORDS..: words below 256 as a part has them
+small() { printf "$(printf '\\%o\\0\\0\\0' "$@")"; }
+
+# reads PREFIX: the command there says a label's version, and which there are
+reads() {
+    printf 'v=2\nseed=000000012fffffff\nm=10\nn=12\n' >"$work/label"
+    gives 0 emulated "$1/bin/uisnabar" label "$work/label"
+    complained 'ACCEPTED: a label of version 2, seed 000000012fffffff, m 10 and n 12'
+    printf 'v=3\nseed=000000012fffffff\nm=10\nn=12\n' >"$work/label"
+    gives 1 emulated "$1/bin/uisnabar" label "$work/label"
+    complained 'line 1 must be v=1 or v=2 (versions 1 and 2 are known)'
+}
+
+# finds PREFIX: the command there says what a refused lookup was of
+finds() {
+    native "$1/bin/uisnabar-table" <"$1/share/uisnabar/shelf/seed-0.label" >"$work/tables" || fault "uisnabar-table failed: $1"
+    spoil "$work/tables" >"$work/spoiled-tables"
+    gives 1 emulated "$1/bin/uisnabar" judge "$work/spoiled-tables"
+    said_file <(printf '%s\n' verdict=5 part=3 place=17 rule=3 expected=335903614 found=335903489)
+    complained 'value B must be the cell at address B; cell 0 holds 335903614, value B is 335903489'
+}
+
+# translates PREFIX: the command there writes a MUL of draft 0.5.0 by fp, and a refused program leaves what was written
+translates() {
+    small 1 2 3 0 0 1 0 1 0 0 0 0 0 0 >"$work/old"
+    small 1 2 0 0 0 0 1 0 1 0 0 0 >"$work/wanted"
+    gives 0 emulated "$1/bin/uisnabar" translate "$work/old" "$work/new"
+    cmp -s "$work/new" "$work/wanted" || fault "another translation: $1"
+    small 1 2 3 0 0 1 0 1 0 0 0 0 0 1 >>"$work/old"
+    gives 1 emulated "$1/bin/uisnabar" translate "$work/old" "$work/new"
+    complained 'EDITION: instruction 1 of the program of draft 0.5.0, at byte 56, is not translatable: AUX_2 must be 0'
+    cmp -s "$work/new" "$work/wanted" || fault "a refused program changed what was written: $1"
+}
+
+# lists PREFIX: the command there assembles a listing and lists it, and a refused one leaves what was written
+lists() {
+    local line='op=mul a=cell:1 b=imm:2 c=fp:3'
+    echo "$line" >"$work/listing"
+    small 1 2 3 0 1 0 1 0 1 0 0 0 >"$work/wanted"
+    gives 0 emulated "$1/bin/uisnabar" assemble "$work/listing" "$work/assembled"
+    cmp -s "$work/assembled" "$work/wanted" || fault "another program: $1"
+    gives 0 emulated "$1/bin/uisnabar" list "$work/assembled"
+    said_file "$work/listing"
+    printf '%s\r\n' "$line" >"$work/listing"
+    gives 1 emulated "$1/bin/uisnabar" assemble "$work/listing" "$work/assembled"
+    said_file <(printf '%s\n' verdict=16 part=0 place=30 rule=0 expected=0 found=0)
+    complained 'LISTING: line 1, column 31: LF, or a digit with which the number does not pass 2130706432, is expected here, not CR'
+    cmp -s "$work/assembled" "$work/wanted" || fault "a refused listing changed what was written: $1"
+}
+
+# campaigns PREFIX: the command and the programs there do README.md's two lines, and docs/VERDICTS.md's script, whose
+# labels are accepted; a number that is no host's writes none
+campaigns() {
+    local label
+    mkdir -p "$work/campaign"
+    sed -n '/^## Streams from one seed/,/^    done/s/^    //p' "$1/share/doc/uisnabar/VERDICTS.md" >"$work/campaign/script"
+    printf 'uisnabar() { emulated "%s" "$@"; }\n' "$1/bin/uisnabar" >"$work/campaign/command"
+    gives 0 emulated "$1/bin/uisnabar" host 000000012fffffff 3
+    said_file <(echo a016e3012fffffff)
+    gives 0 emulated "$1/bin/uisnabar" jump a016e3012fffffff 1024
+    complained "ACCEPTED: seed $(cat "$work/said") is 1024 draws on from seed a016e3012fffffff"
+    (cd "$work/campaign" && rm -rf host-* && . ./command && . ./script) 2>"$work/complained" || fault "the page's script failed: $1"
+    complained 'ACCEPTED: host 3 begins with seed a016e3012fffffff, 3298534883328 draws on from seed 000000012fffffff'
+    equal "the script's labels" "$(cd "$work/campaign" && echo host-*/*)" 'host-3/0.label host-3/1.label host-3/2.label host-3/3.label'
+    grep -qxF "seed=$(cat "$work/said")" "$work/campaign/host-3/1.label" || fault "another seed in the second label: $1"
+    for label in "$work/campaign"/host-3/*.label; do
+        native "$1/bin/uisnabar-replay" <"$label" | grep -qx verdict=0 || fault "the script's label is refused: $label"
+    done
+    gives 1 emulated "$1/bin/uisnabar" host 000000012fffffff 16777216
+    said ''
+    complained "HOST: 16777216 is no host's number: hosts are 0 to 16777215"
+}
+
+# holds_tree PREFIX: a driver compiled by pkg-config judges; the programs answer the shelf, and the command counts its
+# forms, says what was found, translates, lists, reads labels and gives hosts their seeds; all as in the repository
+holds_tree() {
+    local doc=$1/share/doc/uisnabar shelf=$1/share/uisnabar/shelf flags label
+    flags=$(PKG_CONFIG_PATH=$1/lib/pkgconfig pkg-config --cflags --libs uisnabar) || fault "pkg-config knows no uisnabar"
+    equal "pkg-config's version" "$(PKG_CONFIG_PATH=$1/lib/pkgconfig pkg-config --modversion uisnabar)" "$(version)"
+    # pkg-config puts a backslash before a space
+    eval "compile \"\$work/tree-driver\" \"\$doc/driver.c\" $flags" || { fault "driver.c cannot be compiled in $1"; return 0; }
+    rm -f "$work/tree-grid"
+    for label in "$shelf"/*.label; do
+        native "$1/bin/uisnabar-replay" <"$label" | cmp -s - "${label%.label}.answer" || fault "another answer: $label"
+        native "$1/bin/uisnabar-table" <"$label" >"$work/tables" || fault "uisnabar-table failed: $label"
+        equal "$label" "$(sha256sum <"$work/tables")" "$(cat "${label%.label}.tables")"
+        [ -s "$work/tables" ] || continue
+        gives 0 of "$work/tables" emulated "$work/tree-driver"
+        gives 0 emulated "$1/bin/uisnabar" count "$work/tree-grid" "$work/tables"
+    done
+    gives 0 emulated "$1/bin/uisnabar" report "$work/tree-grid"
+    said_file "$work/report"
+    finds "$1"
+    translates "$1"
+    lists "$1"
+    reads "$1"
+    campaigns "$1"
+    for label in VERDICTS.md LISTING.md CHANGELOG.md driver.rs; do
+        [ -s "$doc/$label" ] || fault "$doc has no $label"
+    done
+    diff -r shelf "$shelf" >/dev/null || fault "$shelf is not the shelf"
+    gives 0 emulated "$1/bin/uisnabar" --version
+}
+
+# native FILE: a program under the system's loader, on Arm under the kit's
+native() { if [ "$(uname -m)" = x86_64 ]; then "$1"; else loaded "$1"; fi; }
