@@ -1,7 +1,7 @@
 /* A second judge, counter of instruction forms, tabler, translator of programs
- * of draft 0.5.0, reader and writer of listings, maker and label reader and
- * writer for leanVM test tables, written from the documents alone (see
- * README.md).
+ * of draft 0.5.0, reader and writer of listings, generator's jump, maker and
+ * label reader and writer for leanVM test tables, written from the documents
+ * alone (see README.md).
  *
  * No function here keeps state, so all may be called from several threads.
  * A pointer may be NULL where its length is 0.  Buffers must not overlap. */
@@ -111,6 +111,13 @@ second_answer second_list(const uint8_t *program, size_t program_len,
 second_answer second_read_listing(const uint8_t *text, size_t text_len,
                                   uint8_t *program, size_t program_len,
                                   uint64_t *written);
+
+/* The generator's state after so many draws, none of which is drawn. */
+uint64_t second_jump(uint64_t state, uint64_t draws);
+
+/* The state that a host starts from, host * 2^40 draws after the seed; HOST for
+ * a host at or above 2^24, and *next is the seed then. */
+second_answer second_host(uint64_t seed, uint64_t host, uint64_t *next);
 
 /* Fills program (48 * (n + 1) bytes) and memory (4 * 2^m bytes) from a
  * recipe; a refusal changes no byte. */
