@@ -81,6 +81,13 @@ static attempt on_listing(enum function f)
     return t;
 }
 
+static attempt on_stream(enum function f)
+{
+    attempt t = { .function = f, .state = recipe.seed, .number = 3 };
+    t.lent[0].len = NEXT_BYTES;
+    return t;
+}
+
 static attempt accepted(differ *d, enum function f)
 {
     switch (f) {
@@ -95,6 +102,9 @@ static attempt accepted(differ *d, enum function f)
     case LISTER:
     case LIST_READER:
         return on_listing(f);
+    case STREAM_JUMP:
+    case STREAM_HOST:
+        return on_stream(f);
     default:
         return on_recipe(f);
     }

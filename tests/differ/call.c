@@ -13,6 +13,7 @@
 _Static_assert(UISNABAR_ANSWER_BYTES == ANSWER_BYTES
                && UISNABAR_RECIPE_BYTES == RECIPE_BYTES
                && UISNABAR_WRITTEN_BYTES == WRITTEN_BYTES
+               && UISNABAR_NEXT_BYTES == NEXT_BYTES
                && UISNABAR_GRID_BYTES == SECOND_GRID_BYTES,
                "the header's lengths are the documents'");
 
@@ -107,6 +108,12 @@ static void call_library(void *at)
                                                 : uisnabar_read_listing)(
             s[0].lent, s[0].len, s[1].lent, s[1].len, s[2].lent, s[2].len,
             s[3].lent, s[3].len);
+        break;
+    case STREAM_JUMP:
+    case STREAM_HOST:
+        c->returned = (c->t->function == STREAM_JUMP ? uisnabar_jump
+                                                     : uisnabar_host)(
+            c->t->state, c->t->number, s[0].lent, s[0].len, s[1].lent, s[1].len);
         break;
     default:
         c->returned = call_probe(c->t, s);

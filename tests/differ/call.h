@@ -7,7 +7,7 @@
 #include "tally.h"
 
 enum { SLOTS = 6, FULL_DIFFERENCES = 10, NUMBERS = 6, ANSWER_BYTES = 4 * NUMBERS,
-       RECIPE_BYTES = 20, WRITTEN_BYTES = 8 };
+       RECIPE_BYTES = 20, WRITTEN_BYTES = 8, NEXT_BYTES = 8 };
 
 /* A buffer at entry; bytes NULL stands for random bytes. */
 typedef struct {
@@ -22,6 +22,7 @@ typedef struct {
     enum function function;
     uint64_t pc, fp;      /* judge, count and tabler */
     second_recipe recipe; /* maker and writer */
+    uint64_t state, number; /* jump and host: a seed, and draws or a host */
     buffer lent[SLOTS];
     bool sorted;          /* the bus would be slow to count */
     bool extra;           /* beside the calls that are asked for */
@@ -48,7 +49,8 @@ void note(differ *d, const char *format, ...);
 void note_back(differ *d, size_t len);
 
 /* More calls are asked for.  Counts, reports, translations with what is tabled
- * of these, and listings come beside, so that they take the place of no other. */
+ * of these, listings and streams come beside, so that they take the place of no
+ * other. */
 static inline bool more_calls(const differ *d)
 {
     return d->calls - d->extra < d->limit;

@@ -1,9 +1,9 @@
 /* Compares the library with the second implementation, call by call.
  *
  *   differ SEED CALLS             stops after that many calls, counts, reports,
- *                                 translations, listings and the lists of
- *                                 versions.c, lookups.c and answers.c not among
- *                                 them
+ *                                 translations, listings, streams and the lists
+ *                                 of versions.c, lookups.c and answers.c not
+ *                                 among them
  *   differ SEED 0 SECONDS         stops after that long
  *   differ --page SEED CALLS      buffers at pages that fault, small stack
  *   differ --large                a few tables of 16,383 and of 32,767 groups,
@@ -41,8 +41,8 @@ static double seconds_now(void)
     return (double)t.tv_sec + (double)t.tv_nsec / 1e9;
 }
 
-/* A world, then labels, recipes, a report, old programs and listings; all forms
- * now and then. */
+/* A world, then labels, recipes, a report, old programs, listings and streams;
+ * all forms now and then. */
 static void one_turn(differ *d, uint32_t turn)
 {
     if (turn % 16 == 0)
@@ -60,6 +60,8 @@ static void one_turn(differ *d, uint32_t turn)
     try_old_runs(d);
     for (int i = 0; i < 8; i++)
         try_listing(d);
+    for (int i = 0; i < 4; i++)
+        try_stream(d);
 }
 
 /* Until calls or seconds are used up. */
@@ -69,6 +71,7 @@ static void run(differ *d, uint64_t seconds)
     try_limits(d);
     try_every_old(d);
     try_listing_sweeps(d);
+    try_stream_edges(d);
     try_versions(d);
     try_lookups(d);
     try_answers(d);
@@ -111,7 +114,7 @@ int main(int argc, char **argv)
     end_campaign(&all);
     bool complete = tally_report(&all.reached);
     printf("calls: %" PRIu64 ", and %" PRIu64 " of counts, reports, "
-           "translations, listings and lists\ndifferences: %" PRIu64 "\n",
+           "translations, listings, streams and lists\ndifferences: %" PRIu64 "\n",
            all.calls - all.extra, all.extra, all.differences);
     return complete && all.differences == 0 ? 0 : 1;
 }

@@ -5,13 +5,14 @@
 
 const char *const function_names[FUNCTIONS] = {
     "judge", "label reader", "tabler", "maker", "label writer", "count",
-    "report", "translation", "lister", "listing reader"
+    "report", "translation", "lister", "listing reader", "stream jump",
+    "stream host"
 };
 
 static const char *const verdict_names[VERDICTS] = {
     "ACCEPTED", "SIZE", "WORD", "INSTRUCTION", "START", "EXEC", "EXTENSION",
     "BUS", "LABEL", "STUCK", "ROOM", "OPEN", "SELF", "ANSWER", "GRID",
-    "EDITION", "LISTING", "SHORT"
+    "EDITION", "LISTING", "SHORT", "HOST"
 };
 
 const size_t answer_lengths[ANSWER_LENGTHS] = { 0, 16, 20, 23, 25, 48 };
@@ -60,6 +61,8 @@ static const bool expected[FUNCTIONS][VERDICTS] = {
                  [INSTRUCTION] = true, [ANSWER] = true, [SHORT] = true },
     [LIST_READER] = { [ACCEPTED] = true, [ANSWER] = true, [LISTING] = true,
                       [SHORT] = true },
+    [STREAM_JUMP] = { [ACCEPTED] = true, [ANSWER] = true },
+    [STREAM_HOST] = { [ACCEPTED] = true, [ANSWER] = true, [HOST] = true },
 };
 
 /* A number outside its table is a difference's business, not the tally's. */
@@ -211,5 +214,6 @@ bool tally_report(const tally *t)
     complete = lookup_report(&t->lookups) && complete;
     complete = version_report(&t->versions) && complete;
     complete = listing_report(&t->listings) && complete;
+    complete = stream_report(&t->streams) && complete;
     return old_report(&t->olds) && complete;
 }

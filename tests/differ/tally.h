@@ -8,15 +8,17 @@
 #include "listing_tally.h"
 #include "lookup_tally.h"
 #include "old_tally.h"
+#include "stream_tally.h"
 #include "version_tally.h"
 
 enum function { JUDGE, LABEL_READER, TABLER, MAKER, LABEL_WRITER, COUNT, REPORT,
-                TRANSLATE, LISTER, LIST_READER, FUNCTIONS };
+                TRANSLATE, LISTER, LIST_READER, STREAM_JUMP, STREAM_HOST,
+                FUNCTIONS };
 
 /* The documents' verdicts. */
 enum { ACCEPTED, SIZE, WORD, INSTRUCTION, START, EXEC, EXTENSION, BUS, LABEL,
        STUCK, ROOM, OPEN, SELF, ANSWER, GRID, EDITION, LISTING, SHORT,
-       VERDICTS };
+       HOST, VERDICTS };
 
 enum { LAST_EXEC_RULE = 16, LAST_EXT_RULE = 21, LAST_STUCK_RULE = 8,
        LAST_SIZE_PART = 5, LAST_PART = 4 };
@@ -46,6 +48,7 @@ typedef struct {
     version_tally versions;
     lookup_tally lookups;
     listing_tally listings;
+    stream_tally streams;
 } tally;
 
 extern const char *const function_names[FUNCTIONS];

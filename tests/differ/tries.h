@@ -48,6 +48,11 @@ void try_old_runs(differ *d);
 void try_listing(differ *d);
 void try_listing_sweeps(differ *d);
 
+/* streams.c: jumps and hosts by chance with the laws between them; once every
+ * width of a number, edge of a host and length of a buffer. */
+void try_stream(differ *d);
+void try_stream_edges(differ *d);
+
 /* large.c: tables of many groups; false where the two differ. */
 bool try_large(void);
 

@@ -6,6 +6,7 @@ typedef struct {
     second_recipe read; /* of the label reader */
     uint32_t length;    /* of the label writer */
     uint64_t written;   /* of the report, the lister and its reader */
+    uint64_t next;      /* of jump and host */
 } given;
 
 /* The second's answer; its work is done in the mirrors. */
@@ -30,6 +31,11 @@ static second_answer second_answers(const attempt *t, const slot *s, given *out)
     case LIST_READER:
         return (t->function == LISTER ? second_list : second_read_listing)(
             s[0].mirror, s[0].len, s[1].mirror, s[1].len, &out->written);
+    case STREAM_JUMP:
+        out->next = second_jump(t->state, t->number);
+        return (second_answer){ .verdict = ACCEPTED };
+    case STREAM_HOST:
+        return second_host(t->state, t->number, &out->next);
     case TABLER:
         return second_table(s[0].mirror, s[0].len, s[1].mirror, s[1].len,
                             t->pc, t->fp, s[2].mirror, s[2].len,
@@ -48,7 +54,7 @@ int answer_slot(enum function f)
     static const int slots[FUNCTIONS] = {
         [JUDGE] = 4, [LABEL_READER] = 1, [TABLER] = 4, [MAKER] = 2,
         [LABEL_WRITER] = 1, [COUNT] = 5, [REPORT] = 3, [TRANSLATE] = 2,
-        [LISTER] = 3, [LIST_READER] = 3
+        [LISTER] = 3, [LIST_READER] = 3, [STREAM_JUMP] = 1, [STREAM_HOST] = 1
     };
     return slots[f];
 }
@@ -68,6 +74,9 @@ static bool lengths_fit(enum function f, const slot *s)
     case LISTER:
     case LIST_READER:
         return s[2].len == WRITTEN_BYTES;
+    case STREAM_JUMP:
+    case STREAM_HOST:
+        return s[0].len == NEXT_BYTES;
     default:
         return true;
     }
@@ -105,13 +114,15 @@ static void tell(enum function f, const slot *s, second_answer a, given g)
     }
     if (f == REPORT || f == LISTER || f == LIST_READER)
         store_number(s[2].mirror, g.written);
+    if (f == STREAM_JUMP || f == STREAM_HOST)
+        store_number(s[0].mirror, g.next);
 }
 
 second_answer wanted(const attempt *t, const slot *s, uint32_t *returned)
 {
     bool fit = lengths_fit(t->function, s);
     second_answer a = { .verdict = ANSWER };
-    given g = { { 0, 0, 0, 0 }, 0, 0 };
+    given g = { { 0, 0, 0, 0 }, 0, 0, 0 };
     if (fit || is_probe(t->function))
         a = second_answers(t, s, &g);
     if (fit)
