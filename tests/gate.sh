@@ -125,6 +125,11 @@ listings() {
     against listings && python3 tests/listings.py cases | emulated target/c/listings | python3 tests/listings.py compare
 }
 
+# streams: jumps and hosts by hand and by the Python implementation, through the library
+streams() {
+    against streams && python3 tests/streams.py cases | emulated target/c/streams | python3 tests/streams.py compare
+}
+
 page_checks() {
     stage "layout, contracts, pages"
     check "layout (rt fmt --check)" rt fmt --check
@@ -163,6 +168,7 @@ run_checks() {
     check "the command uisnabar, on every verdict and rule" cli_test
     check "programs of draft 0.5.0: words, refusals and runs as written by hand" editions
     check "listings: by hand, of the shelf and of every form, every cut and every change of a byte" listings
+    check "streams: by hand, every jump of up to a million draws, every edge of a host" streams
     check "library and second implementation agree" differ 1 40000
     check "the same at the end of a page, on a small stack" differ --page 2 4000
     check "the same on large tables, in rounds and windows, accepted and refused" differ --large
