@@ -6,10 +6,12 @@
 #include <string.h>
 
 #include "../differ/library.h"
+#include "../differ/random.h"
 #include "../second/second.h"
 
 static uint8_t answer[UISNABAR_ANSWER_BYTES], recipe[UISNABAR_RECIPE_BYTES], grid[SECOND_GRID_BYTES];
-static uint8_t written[UISNABAR_WRITTEN_BYTES];
+static uint8_t written[UISNABAR_WRITTEN_BYTES], next[UISNABAR_NEXT_BYTES];
+static source numbers;
 
 void expect(uint32_t verdict, uint32_t wanted, const char *what)
 {
@@ -162,6 +164,43 @@ uint32_t second_label(job *j)
     put_word(recipe + 12, r.n);
     put_word(recipe + 16, r.version);
     return told(a);
+}
+
+/* another number each time, from where the last call went, so that no two run at once; the number's own time is of both */
+static uint64_t some_number(const job *j)
+{
+    return next_number(&numbers) >> (64 - j->bits);
+}
+
+static uint32_t gone_on(job *j, uint32_t verdict)
+{
+    memcpy(&j->seed, next, sizeof next);
+    return verdict;
+}
+
+uint32_t library_jump(job *j)
+{
+    return gone_on(j, uisnabar_jump(j->seed, some_number(j), next, sizeof next, answer, sizeof answer));
+}
+
+uint32_t second_jumps(job *j)
+{
+    uint64_t state = second_jump(j->seed, some_number(j));
+    memcpy(next, &state, sizeof next);
+    return gone_on(j, told((second_answer){.verdict = 0}));
+}
+
+uint32_t library_host(job *j)
+{
+    return gone_on(j, uisnabar_host(j->seed, some_number(j), next, sizeof next, answer, sizeof answer));
+}
+
+uint32_t second_hosts(job *j)
+{
+    uint64_t state;
+    second_answer a = second_host(j->seed, some_number(j), &state);
+    memcpy(next, &state, sizeof next);
+    return gone_on(j, told(a));
 }
 
 /* a recipe made, tabled and judged at H = K = 256, another seed each time */

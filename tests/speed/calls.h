@@ -15,6 +15,7 @@ typedef struct {
     size_t text_len;
     size_t calls;    /* so many calls are timed as one */
     uint32_t wanted; /* the verdict that each must give */
+    unsigned bits;   /* of the draws, or of the host */
 } job;
 
 typedef uint32_t (*call)(job *j);
@@ -42,6 +43,10 @@ uint32_t library_read_listing(job *j);
 uint32_t second_reads_listing(job *j);
 uint32_t library_label(job *j);
 uint32_t second_label(job *j);
+uint32_t library_jump(job *j);
+uint32_t second_jumps(job *j);
+uint32_t library_host(job *j);
+uint32_t second_hosts(job *j);
 uint32_t library_whole(job *j);
 uint32_t second_whole(job *j);
 

@@ -1,83 +1,17 @@
 /* Times the library beside the second implementation, both on the same buffers in one run.
  *
  * A time is the least of several runs, taken in turn. Nothing is cleared between runs; the tables are written by both tablers before
- * the judges read them. Ends with 1 where counting takes more than its budget beside judging. */
-#define _POSIX_C_SOURCE 200809L
+ * the judges read them. Ends with 1 where counting takes more than its budget beside judging, or a jump more than its own. */
 #include <stdio.h>
-#include <stdlib.h>
-#include <string.h>
-#include <time.h>
 
-#include "calls.h"
+#include "clock.h"
 
-enum { SIZES = 3, REFUSED = 4, ROUNDS = 41, SOME = 11, FEW = 3, BUS = 7 };
+enum { SIZES = 3, REFUSED = 4, SOME = 11, FEW = 3, BUS = 7, STREAMS = 20000 };
 
-/* Counting takes at most so many times what judging the same table takes. */
-static const double budget = 1.25;
+/* Counting takes at most so many times what judging the same table takes, and a jump or a host's start so many
+ * nanoseconds. */
+static const double budget = 1.25, stream_budget = 1000;
 static int over_budget;
-
-static double seconds(void)
-{
-    struct timespec t;
-    clock_gettime(CLOCK_MONOTONIC, &t);
-    return (double)t.tv_sec + 1e-9 * (double)t.tv_nsec;
-}
-
-static double once(call f, job *j, const char *what)
-{
-    double begun = seconds();
-    for (size_t i = 0; i < j->calls; i++)
-        expect(f(j), j->wanted, what);
-    return (seconds() - begun) / (double)j->calls;
-}
-
-/* one line of the page: a job of one size */
-typedef struct {
-    const char *size;
-    double units; /* rows, cells or bytes */
-    job j;
-    double library, second;  /* the least time of each */
-    double ratios[ROUNDS]; /* library / second, each of two runs in turn */
-} compared;
-
-static int by_size(const void *x, const void *y)
-{
-    double a = *(const double *)x, b = *(const double *)y;
-    return (a > b) - (a < b);
-}
-
-/* All sizes in each round, so that a slow spell of the machine falls on each of them, and each implementation first in turn, as the first finds
- * caches cold. The ratio is the middle one of all rounds. */
-static void compare(const char *what, compared *c, int sizes, int rounds, call library, call second)
-{
-    for (int s = 0; s < sizes; s++)
-        c[s].library = c[s].second = 1e30;
-    for (int k = 0; k < rounds; k++)
-        for (int s = 0; s < sizes; s++) {
-            double b = k % 2 ? once(second, &c[s].j, what) : 0;
-            double a = once(library, &c[s].j, what);
-            if (k % 2 == 0)
-                b = once(second, &c[s].j, what);
-            c[s].ratios[k] = a / b;
-            c[s].library = a < c[s].library ? a : c[s].library;
-            c[s].second = b < c[s].second ? b : c[s].second;
-        }
-    double each_before = 0, second_before = 0, each_first = 0;
-    for (int s = 0; s < sizes; s++) {
-        double each = 1e9 * c[s].library / c[s].units, second_each = 1e9 * c[s].second / c[s].units;
-        qsort(c[s].ratios, (size_t)rounds, sizeof(double), by_size);
-        printf("%-34s %-26s %10.3f %10.3f %7.2f", what, c[s].size, each, second_each, c[s].ratios[rounds / 2]);
-        if (s > 0)
-            printf(" %7.2f %8.2f", each / each_before, second_each / second_before);
-        if (s > 1 && s == sizes - 1)
-            printf(" %7.2f", each / each_first);
-        printf("\n");
-        each_before = each;
-        second_before = second_each;
-        each_first = s == 0 ? each : each_first;
-    }
-    fflush(stdout);
-}
 
 static uint64_t plain_sum(const uint8_t *bytes, size_t n)
 {
@@ -271,6 +205,30 @@ static void labels(uint32_t version, const char *what)
     compare(what, c, SIZES, ROUNDS, library_label, second_label);
 }
 
+/* A line for numbers of so many bits, each size its own, and the slowest of them beside the budget. */
+static void streams(const char *what, const unsigned *bits, const char *const *names, int sizes, call library, call second)
+{
+    static compared c[SIZES];
+    double most = 0;
+    for (int s = 0; s < sizes; s++)
+        c[s] = (compared){.size = names[s], .units = 1, .j = {.seed = 1, .bits = bits[s], .calls = STREAMS}};
+    compare(what, c, sizes, ROUNDS, library, second);
+    for (int s = 0; s < sizes; s++)
+        most = 1e9 * c[s].library > most ? 1e9 * c[s].library : most;
+    over_budget |= most >= stream_budget;
+    printf("%-34s %-26s at most %.0f ns, of a budget of %.0f%s\n", "", "", most, stream_budget,
+           most >= stream_budget ? ": OVER IT" : "");
+}
+
+static void jumps_and_hosts(void)
+{
+    static const unsigned draws[SIZES] = {8, 32, 64}, hosts[] = {24};
+    static const char *const sizes[SIZES] = {"draws of 8 bits", "draws of 32 bits", "draws of 64 bits"};
+    static const char *const host_sizes[] = {"hosts of 24 bits"};
+    streams("jump, each", draws, sizes, SIZES, library_jump, second_jumps);
+    streams("host's start, each", hosts, host_sizes, 1, library_host, second_hosts);
+}
+
 int main(void)
 {
     printf("%-34s %-26s %10s %10s %7s %7s %8s %7s\n", "", "", "library ns", "second ns", "ratio", "growth", "second's", "in all");
@@ -284,6 +242,7 @@ int main(void)
     listings();
     labels(1, "label reader, each byte");
     labels(2, "label reader, each byte, version 2");
+    jumps_and_hosts();
     whole();
     return over_budget;
 }

@@ -15,7 +15,7 @@ enum { ROOM = 256 << 10, PAINT = 0xa5, GROUP = 4 * 120, LISTED = 1 << 10 };
 static uint8_t *stack;
 static speed_input in, old;
 static uint8_t answer[UISNABAR_ANSWER_BYTES], recipe[UISNABAR_RECIPE_BYTES], text[64], grid[UISNABAR_GRID_BYTES];
-static uint8_t report_text[UISNABAR_REPORT_BYTES], written[UISNABAR_WRITTEN_BYTES];
+static uint8_t report_text[UISNABAR_REPORT_BYTES], written[UISNABAR_WRITTEN_BYTES], next[UISNABAR_NEXT_BYTES];
 static uint8_t listing[UISNABAR_LINE_BYTES * LISTED], listed[48 * LISTED]; /* a program of so many instructions */
 static size_t listing_len;
 static int above; /* a call that is exported used more than the header says */
@@ -59,6 +59,18 @@ static void *list(void *room)
 static void *read_listing(void *room)
 {
     uisnabar_read_listing(listing, listing_len, listed, *(size_t *)room, written, sizeof written, answer, sizeof answer);
+    return NULL;
+}
+
+static void *jump(void *draws)
+{
+    uisnabar_jump(~UINT64_C(0), *(uint64_t *)draws, next, sizeof next, answer, sizeof answer);
+    return NULL;
+}
+
+static void *host(void *number)
+{
+    uisnabar_host(~UINT64_C(0), *(uint64_t *)number, next, sizeof next, answer, sizeof answer);
     return NULL;
 }
 
@@ -209,6 +221,14 @@ static size_t of_read_listing(void)
     return most(used, touched(read_listing, &whole));
 }
 
+/* The first number and the last: of draws, or of hosts with one that is refused. */
+static size_t over_numbers(void *(*work)(void *), uint64_t last)
+{
+    uint64_t numbers[] = {0, last, ~UINT64_C(0)};
+    size_t used = most(touched(work, &numbers[0]), touched(work, &numbers[1]));
+    return most(used, touched(work, &numbers[2]));
+}
+
 static void line(const char *name, size_t used, size_t start)
 {
     printf("%s: %zu bytes of stack\n", name, used - start);
@@ -240,6 +260,8 @@ int main(void)
     exported("uisnabar_translate", of_translate(), start, UISNABAR_STACK_BYTES);
     exported("uisnabar_list", of_list(), start, UISNABAR_STACK_BYTES);
     exported("uisnabar_read_listing", of_read_listing(), start, UISNABAR_STACK_BYTES);
+    exported("uisnabar_jump", over_numbers(jump, UINT64_C(1) << 63), start, UISNABAR_STACK_BYTES);
+    exported("uisnabar_host", over_numbers(host, UISNABAR_HOSTS - 1), start, UISNABAR_STACK_BYTES);
     exported("uisnabar_label", over_versions(label), start, UISNABAR_STACK_BYTES);
     line("label writer", over_versions(writer), start);
     line("maker", over_versions(maker), start);
