@@ -18,16 +18,22 @@ FILL, ROOM, BEFORE = b"\xa5", 64, 16
 HEAD, NUMBER, ANSWER, WALKED = struct.Struct("<6Q"), struct.Struct("<Q"), struct.Struct("<6I"), struct.Struct("<3Q")
 INCREMENT, STATES, MILLION = 1442695040888963407, 2**64, 10**6
 MIXED = 0x0123456789ABCDEF
-# (state, draws, state after them). Of seed 0 the increment and then one step more, by hand; of 1 the increment and the
-# multiplier. The period is 2^64 and a power of two goes on with the bits below it unchanged, so that 2^63 draws change
-# the highest bit alone and one draw less than 2^64 is a step back. The last two were walked once, draw by draw.
+# (state, draws, state after them). One draw from 0 is the increment, from 1 the multiplier more. The period is 2^64,
+# and 2^k draws change bit k and none below: 2^63 change the highest bit alone, and one less than 2^64 is a step back.
 BY_HAND = (
     (0, 0, 0), (MIXED, 0, MIXED), (STATES - 1, 0, STATES - 1),
-    (0, 1, INCREMENT), (1, 1, 7806831264735756412), (0, 2, 1876011003808476466),
+    (0, 1, INCREMENT), (1, 1, 7806831264735756412), (2**32, 1, 6961151790551630159), (0, 2, 1876011003808476466),
     (INCREMENT, STATES - 1, 0), (7806831264735756412, STATES - 1, 1), (1876011003808476466, STATES - 2, 0),
     (0, 2**63, 2**63), (1, 2**63, 2**63 + 1), (MIXED, 2**63, 0x8123456789ABCDEF), (STATES - 1, 2**63, 2**63 - 1),
     (INCREMENT, 2**63 - 1, 2**63), (2**63, 2**63 + 1, INCREMENT),
 )
+# (seed, host, its start). Of 0 and 1 by one draw's pair, doubled forty times; all other hosts on from there lead back.
+FIRST_HOST = 0x575B050000000000
+HOSTS_BY_HAND = (
+    (0, 1, FIRST_HOST), (1, 1, 0xCEAE690000000001), (FIRST_HOST, 2**24 - 1, 0), (0xCEAE690000000001, 2**24 - 1, 1),
+    (0, 2**23, 2**63), (MIXED, 2**23, 0x8123456789ABCDEF), (STATES - 1, 2**23, 2**63 - 1),
+)
+FIRST_DRAWS = {0: 335903614, 1: 1817669548, 2**32: 1620769451}  # document 01's, by their seed
 TAKEN = (0, 1, 2, 2**23, 2**24 - 2, 2**24 - 1)
 REFUSED = (2**24, 2**24 + 1, 2**25, 2**32 - 1, 2**32, 2**32 + 1, 2**32 + 2**24 - 1, 2**40, 2**40 + 1, 2**48, 2**56,
            2**63, 2**63 + 1, STATES - 1)
@@ -102,7 +108,9 @@ def by_hand():
 
 
 def hosts(choose):
-    """Host 0 and what is refused by hand, the others by the oracle."""
+    """Those above, host 0 and what is refused by hand, the others by the oracle."""
+    for seed, number, start in HOSTS_BY_HAND:
+        yield Case(HOST, seed, (number,), six(0), start)
     for seed in (0, 1, MIXED, 2**63, STATES - 1, choose.getrandbits(64)):
         yield Case(HOST, seed, (0,), six(0), seed)
         for number in REFUSED:
@@ -160,7 +168,10 @@ def kept(every):
 
 
 def reached(every):
-    """Whether every edge is there."""
+    """Whether enough of each kind is there, and document 01's first draws."""
+    firsts = {state: after >> 32 for state, draws, after in BY_HAND if draws == 1}
+    if firsts != FIRST_DRAWS:
+        yield f"document 01's first draws are {FIRST_DRAWS}, not {firsts}"
     asked = [(case.asked, case.answer[0]) for case in every if case.asked != WALK]
     counts = [asked.count(which) for which in ((JUMP, 0), (TWICE, 0), (HOST, 0), (HOST, 18), (JUMP, 13), (HOST, 13))]
     if min(counts) < 80:

@@ -53,7 +53,7 @@ static bool possible(enum bits bits, uint32_t width)
          : bits == ALL_BITS ? width != 1 : width >= 3;
 }
 
-/* Whether each that is possible was reached, and no other. */
+/* Whether each that is possible was reached. */
 static void print_draws(const char *title, const uint64_t counts[WIDEST + 1],
                         enum bits bits)
 {
@@ -93,14 +93,14 @@ static void print_edges(const uint64_t counts[HOST_EDGES])
     printf("\n");
 }
 
-static void print_lengths(const char *who,
-                          uint64_t counts[NEXT_LENGTHS][TOLD_LENGTHS])
+/* Of jump, 0, or of host, 1. */
+static void print_lengths(const stream_tally *t, int which)
 {
     uint32_t reached = 0;
     for (int i = 0; i < NEXT_LENGTHS * TOLD_LENGTHS; i++)
-        reached += counts[i / TOLD_LENGTHS][i % TOLD_LENGTHS] != 0;
-    printf("%s's lengths of next and answer: %" PRIu32 " of %d pairs\n", who,
-           reached, NEXT_LENGTHS * TOLD_LENGTHS);
+        reached += t->lengths[which][i / TOLD_LENGTHS][i % TOLD_LENGTHS] != 0;
+    printf("%s's lengths of next and answer: %" PRIu32 " of %d pairs\n",
+           which == 0 ? "jump" : "host", reached, NEXT_LENGTHS * TOLD_LENGTHS);
     missing += NEXT_LENGTHS * TOLD_LENGTHS - reached;
 }
 
@@ -117,7 +117,6 @@ static void print_cases(const stream_tally *t)
 
 bool stream_report(const stream_tally *t)
 {
-    stream_tally all = *t;
     missing = 0;
     print_draws("one bit", t->draws[LONE_BIT], LONE_BIT);
     print_draws("all bits", t->draws[ALL_BITS], ALL_BITS);
@@ -125,8 +124,8 @@ bool stream_report(const stream_tally *t)
     print_hosts("taken", t->taken, 0, HOST_BITS);
     print_hosts("refused", t->refused, HOST_BITS + 1, WIDEST);
     print_edges(t->edges);
-    print_lengths("jump", all.lengths[0]);
-    print_lengths("host", all.lengths[1]);
+    print_lengths(t, 0);
+    print_lengths(t, 1);
     print_cases(t);
     printf("streams: %" PRIu32 " not as it should be\n", missing);
     return missing == 0;
