@@ -69,6 +69,11 @@ def check_numbers(check):
     for seed, number in ((0, 335903614), (1, 1817669548), (2**32, 1620769451)):
         check("first draw from %d" % seed, jump(seed, 1) >> 32, number)
     check("0 and one draw", (jump(0, 1), jump(C, STATES - 1)), (C, 0))
+    pair = (A, C)  # of 2^40 draws once it is doubled forty times, which is how host 1 starts
+    for _ in range(40):
+        pair = pair[0]**2 % STATES, (pair[0] + 1) * pair[1] % STATES
+    for seed in (0, 1, STATES - 1):
+        check("host 1 of %016x" % seed, host(seed, 1), (six(0), (pair[0] * seed + pair[1]) % STATES))
     check("verdict 18", oracle.NAMES[HOST], "HOST")
 
 def self_check():
