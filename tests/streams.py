@@ -20,12 +20,15 @@ INCREMENT, STATES, MILLION = 1442695040888963407, 2**64, 10**6
 MIXED = 0x0123456789ABCDEF
 # (state, draws, state after them). One draw from 0 is the increment, from 1 the multiplier more. The period is 2^64,
 # and 2^k draws change bit k and none below: 2^63 change the highest bit alone, and one less than 2^64 is a step back.
+# The last four were walked once, draw by draw.
 BY_HAND = (
     (0, 0, 0), (MIXED, 0, MIXED), (STATES - 1, 0, STATES - 1),
     (0, 1, INCREMENT), (1, 1, 7806831264735756412), (2**32, 1, 6961151790551630159), (0, 2, 1876011003808476466),
     (INCREMENT, STATES - 1, 0), (7806831264735756412, STATES - 1, 1), (1876011003808476466, STATES - 2, 0),
     (0, 2**63, 2**63), (1, 2**63, 2**63 + 1), (MIXED, 2**63, 0x8123456789ABCDEF), (STATES - 1, 2**63, 2**63 - 1),
     (INCREMENT, 2**63 - 1, 2**63), (2**63, 2**63 + 1, INCREMENT),
+    (0, 2**32, 0x4C575B0500000000), (MIXED, 2**32, 0x9E748EC889ABCDEF),
+    (1, 5 * 10**9, 0x082DA0D34C744201), (MIXED, 5 * 10**9, 0x7613F680B9367FEF),
 )
 # (seed, host, its start). Of 0 and 1 by one draw's pair, doubled forty times; all other hosts on from there lead back.
 FIRST_HOST = 0x575B050000000000
