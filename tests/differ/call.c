@@ -74,6 +74,19 @@ static uint32_t call_probe(const attempt *t, const slot *s)
     }
 }
 
+static uint32_t call_listing_pair(const attempt *t, const slot *s)
+{
+    return (t->function == LISTER ? uisnabar_list : uisnabar_read_listing)(
+        s[0].lent, s[0].len, s[1].lent, s[1].len, s[2].lent, s[2].len,
+        s[3].lent, s[3].len);
+}
+
+static uint32_t call_stream_pair(const attempt *t, const slot *s)
+{
+    return (t->function == STREAM_JUMP ? uisnabar_jump : uisnabar_host)(
+        t->state, t->number, s[0].lent, s[0].len, s[1].lent, s[1].len);
+}
+
 static void call_library(void *at)
 {
     library_call *c = at;
@@ -104,16 +117,11 @@ static void call_library(void *at)
         break;
     case LISTER:
     case LIST_READER:
-        c->returned = (c->t->function == LISTER ? uisnabar_list
-                                                : uisnabar_read_listing)(
-            s[0].lent, s[0].len, s[1].lent, s[1].len, s[2].lent, s[2].len,
-            s[3].lent, s[3].len);
+        c->returned = call_listing_pair(c->t, s);
         break;
     case STREAM_JUMP:
     case STREAM_HOST:
-        c->returned = (c->t->function == STREAM_JUMP ? uisnabar_jump
-                                                     : uisnabar_host)(
-            c->t->state, c->t->number, s[0].lent, s[0].len, s[1].lent, s[1].len);
+        c->returned = call_stream_pair(c->t, s);
         break;
     default:
         c->returned = call_probe(c->t, s);
