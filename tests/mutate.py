@@ -75,9 +75,9 @@ EDITS = [
     ("another increment than a draw's", STREAM + "Pairs.antt", r"increment = 1442695040888963407", "increment = 1442695040888963409"),
     ("the first increment not multiplied", STREAM + "Pairs.antt", r"p \.multiplier \* p \.increment \+ p \.increment", "p .increment + p .increment"),
     ("a pair that is not doubled", STREAM + "Pairs.antt", r"^pairOf \(suc i\) = .*$", "pairOf (suc i) = pairOf i"),
-    ("a host more", STREAM + "Host.antt", r"^hosts = .*$", "hosts = 2 ^ 24 + 1"),
+    ("twice as many hosts", STREAM + "Host.antt", r"^hosts = .*$", "hosts = 2 ^ 25"),
     ("hosts 2^41 draws apart", STREAM + "Host.antt", r"^ownDraws = .*$", "ownDraws = 2 ^ 41"),
-    ("a host one draw further on", STREAM + "Host.antt", r"after \(k \* ownDraws\) g", "after (k * ownDraws + 1) g"),
+    ("a host that starts 2^24 draws on from the one before", STREAM + "Host.antt", r"after \(k \* ownDraws\) g", "after (k * hosts) g"),
     ("a refused host that jumps", STREAM + "Host.antt", r"answer = Host; generator = g ", "answer = Host; generator = after k g "),
 ]
 

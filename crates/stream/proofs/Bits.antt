@@ -4,9 +4,11 @@ use mathlib.Core.Path.{_≡_, sym, _∙_, ap}
 use mathlib.Core.List.{List}
 use Prim.Native.Nat.{ℕ, _+_, _*_, _/_, _%_, _^_, _≤_, _<_}
 use native.Mathlib.Omega.{arith}
-use native.Mathlib.Nat.{div-add-mod, pow-suc, one-mul, zero-mul}
+use native.Mathlib.Nat.{div-add-mod, pow-suc, one-mul, zero-mul, mul-le-mul-right}
 use native.Mathlib.Numerals.{add-one}
 use lib.ListN.{getD}
+use lib.Pow.{pow-mono}
+use Rattle.word.proofs.Tests.{by-order}
 use Rattle.stream_spec.specs.Stream.{advances}
 use Rattle.stream_spec.specs.Pairs.{applied, table}
 use Rattle.stream_spec.specs.declared.Pair.{Pair}
@@ -37,9 +39,15 @@ clear-bit k i s h =
     let e : k % 2 ≡ 0 = omega arith in
     rw (e, zero-mul (2 ^ i)) (sym (advances-none s))
 
--- past the last bit no draw is left
-pub all-done : (k i s : ℕ) → i ≡ 64 → k * 2 ^ i < 2 ^ 64 → advances (k * 2 ^ i) s ≡ s
-all-done k i s e h =
-    let small : k * 2 ^ 64 < 2 ^ 64 = rw e at h in
-    let none : k * 2 ^ i ≡ 0 = rw e (omega arith) in
-    rw none (advances-none s)
+-- where a bit is left, it is one of the 64
+pub within : (k i : ℕ) → 0 < k → k * 2 ^ i < 2 ^ 64 → i < 64
+within k i some small =
+    by-order i 64 (λ less. less)
+    (λ most.
+    let least : 2 ^ 64 ≤ 2 ^ i = pow-mono {i = 64} {j = i} most in
+    let more : 2 ^ i ≤ k * 2 ^ i = rw (one-mul (2 ^ i)) at (mul-le-mul-right (2 ^ i) some) in
+    absurd (omega (arith, least, more)))
+
+-- and where none is, no draw is left
+pub all-done : (k i s : ℕ) → k ≡ 0 → advances (k * 2 ^ i) s ≡ s
+all-done k i s e = rw (e, zero-mul (2 ^ i)) (advances-none s)

@@ -6,7 +6,8 @@ use stream_pairs::pairs;
 use stream_spec::Pair;
 use stream_spec::Started;
 ghost use mathlib.Core.Path.{_≡_};
-ghost use Rattle.stream_spec.specs.Stream.{after};
+ghost use Prim.Native.Nat.{_*_, _^_, _<_};
+ghost use Rattle.stream_spec.specs.Stream.{advances, after};
 ghost use Rattle.stream_spec.specs.Pairs.{applied};
 ghost use Rattle.stream_spec.specs.Host.{startOf};
 
@@ -17,25 +18,37 @@ fn apply(pair: Pair, s: u64) -> u64
     std::num::wrapping_add_u64(wrapping_product(pair.multiplier, s), pair.increment)
 }
 
-// The generator so many draws further on: the table's pair of 2^i draws for each bit i of the number.
-pub fn jump(generator: Generator, draws: u64) -> Generator
-    ensures { λ r. ⌜ r ≡ after draws generator ⌝ }
+// k·2^from draws: the table's pair of 2^i draws for each bit i of that number.
+fn leap(s: u64, k: u64, from: usize) -> u64
+    requires { ⌜ k * 2 ^ from < 2 ^ 64 ⌝ }
+    ensures { λ r. ⌜ r ≡ advances (k * 2 ^ from) s ⌝ }
 {
     let table = pairs();
-    let mut s = generator.state;
-    let mut left = draws;
-    let mut i = 0;
-    while i < 64 {
+    let mut state = s;
+    let mut left = k;
+    let mut i = from;
+    while left > 0 {
+        // also where the bit is clear: a choice between two numbers takes less time than a way that is guessed
+        let led = apply(table[i], state);
         if left % 2 == 1 {
-            s = apply(table[i], s);
+            state = led;
         }
         left = left / 2;
         i += 1;
     }
-    Generator { state: s }
+    state
 }
 
-// Where host k starts: 2^40 draws further on than the host before it.
+// The generator so many draws further on.
+pub fn jump(generator: Generator, draws: u64) -> Generator
+    ensures { λ r. ⌜ r ≡ after draws generator ⌝ }
+{
+    Generator {
+        state: leap(generator.state, draws, 0),
+    }
+}
+
+// Where a host starts: 2^40 draws further on than the host before it.
 pub fn start(generator: Generator, host: u64) -> Started
     ensures { λ r. ⌜ r ≡ startOf generator host ⌝ }
 {
@@ -45,8 +58,9 @@ pub fn start(generator: Generator, host: u64) -> Started
             generator,
         };
     }
+    let state = leap(generator.state, host, 40);
     Started {
         answer: Answer::Accepted,
-        generator: jump(generator, host * 1099511627776),
+        generator: Generator { state },
     }
 }

@@ -1,5 +1,5 @@
 -- Document 02, M-106: a jump of any number of draws. "A jump of j equals j single advances."
--- Declared in src/: Generator, Drawn (draw).
+-- Declared in src/: Generator (draw).
 use Prim.Native.Nat.{ℕ, zero, suc}
 use Rattle.draw.specs.Draw.{advance, drawOf}
 use Rattle.draw.specs.declared.Generator.{Generator}

@@ -1,6 +1,6 @@
--- Document 02, M-106, for C: a call that jumps and one that starts a host, and every byte they leave. `next` is 8 bytes,
--- on a refused host the seed as it came.
--- Declared in src/: Answer (answer); Generator (draw); Started (stream_spec).
+-- Document 02, M-106, for C: a call that jumps and one that starts a host, and every byte they leave. `next` is 8
+-- bytes, and on a refused host the seed as it came.
+-- Declared in src/: Answer (answer); Started (stream_spec).
 use Prim.Native.Nat.{ℕ}
 use mathlib.Core.List.{List}
 use Rattle.answer.specs.declared.Answer.the-variants.{Accepted}
