@@ -48,7 +48,7 @@ static const char help[] =
     "        be LISTING itself. Of a text that is no listing the sentence has the line and column at which it leaves every\n"
     "        valid one, and what is expected there (docs/LISTING.md has the grammar).\n"
     "host    The seed with which host K of a campaign begins: K times 2^40 draws on from SEED, K from 0 to 16777215. Host 0\n"
-    "        begins with SEED itself, and no two hosts share one of their first 2^40 draws. For any other K standard output\n"
+    "        begins with SEED itself, and no two hosts share one of their first 2^40 draws. For any higher K standard output\n"
     "        has nothing, and the answer's lines stand on standard error, before the sentence.\n"
     "jump    The seed that is DRAWS draws on from SEED. A label draws at most 660 times, so a host takes a jump of 1024 from\n"
     "        one label's seed to the next label's.\n"

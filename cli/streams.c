@@ -60,7 +60,7 @@ static void host_sentence(FILE *out, const struct step *step, struct answer answ
                 step->number, UISNABAR_HOSTS - 1);
 }
 
-/* no jump is refused */
+/* no number of draws is refused */
 static void jump_sentence(FILE *out, const struct step *step, struct answer answer)
 {
     (void)answer;

@@ -1,5 +1,5 @@
-"""`uisnabar host` and `uisnabar jump`, for tests/cli.py: seeds by composing a draw's map with itself, here; sentences by
-docs/VERDICTS.md, whose script is run, and labels by tests/oracle.py."""
+"""`uisnabar host` and `uisnabar jump`, for tests/cli.py: seeds by composing a draw's map with itself, here; sentences
+by docs/VERDICTS.md, whose script is run, and labels by tests/oracle.py."""
 import os
 import pathlib
 import re
@@ -80,7 +80,7 @@ def streams():
 
 
 def sums():
-    """A jump and a second one are a jump of the sum modulo 2^64; a host and 2^40 draws are the next host, or the first."""
+    """Two jumps are a jump of their sum modulo 2^64; a host and 2^40 draws are the next host, or the first."""
     for j, k in ((1, MOST), (2**63, 2**63), (660, 364), (MOST, MOST), (APART, 12345)):
         once = run("jump", FINE, str(j))[1].decode().strip()
         check(f"jumps of {j} and {k}", run("jump", once, str(k))[1], run("jump", FINE, str((j + k) % ALL))[1])
@@ -162,7 +162,7 @@ def page():
     replaced = re.sub(r"^ *next=.+\n", lambda _: other, script, flags=re.M)
     check("its other line", scripted(replaced), (0, b"", said, {(3, i): label_of(3, 12 + i) for i in range(4)}))
     status, out, _, found = scripted(script.replace("{host:-3}", "{host:-16777216}"))
-    check("its script for no host", (status, out, found), (1, b"", {}))
+    check("its script for no host", (status, out, found, os.listdir("streams")), (1, b"", {}, []))
     lines = re.findall(r"^    uisnabar (host|jump) (\S+) (\d+)$", (ROOT / "README.md").read_text(), re.M)
     check("README.md's lines", lines, [("host", FINE, "3"), ("jump", run("host", FINE, "3")[1].decode().strip(), "1024")])
 

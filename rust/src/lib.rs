@@ -82,8 +82,8 @@ pub const NAMES: [&str; 19] = [
 const ACCEPTED: u32 = 0;
 const ANSWER: u32 = 13;
 
-/// Why tables, a program, a listing, a host or a label were refused: the six numbers of docs/VERDICTS.md. The verdict is
-/// never 0.
+/// Why tables, a program, a listing, a host or a label were refused: the six numbers of docs/VERDICTS.md. The verdict
+/// is never 0.
 #[derive(Clone, Copy, Debug, PartialEq, Eq, Hash)]
 pub struct Refusal {
     pub verdict: u32,

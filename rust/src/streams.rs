@@ -19,7 +19,7 @@ macro_rules! next {
 ///
 /// # Panics
 ///
-/// Where libuisnabar.a is of another version than this crate: no jump is refused.
+/// Where libuisnabar.a is of another version than this crate: no number of draws is refused.
 pub fn jump(state: u64, draws: u64) -> u64 {
     next!(uisnabar_jump(state, draws)).expect("libuisnabar.a is of this crate's version")
 }

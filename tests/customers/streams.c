@@ -1,5 +1,5 @@
-/* What a driver reads of uisnabar_jump and uisnabar_host, byte for byte: states by single advances from document 01, and
- * by the sums that document 02 asks for; buffers of every length. Each fault is a line; the last line has the counts. */
+/* What a driver reads of uisnabar_jump and uisnabar_host, byte for byte: states by single advances from document 01,
+ * and by the sums that document 02 asks for; buffers of every length. Each fault is a line; the last has the counts. */
 #include <inttypes.h>
 #include <stdio.h>
 #include <string.h>

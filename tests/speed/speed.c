@@ -1,7 +1,8 @@
 /* Times the library beside the second implementation, both on the same buffers in one run.
  *
- * A time is the least of several runs, taken in turn. Nothing is cleared between runs; the tables are written by both tablers before
- * the judges read them. Ends with 1 where counting takes more than its budget beside judging, or a jump more than its own. */
+ * A time is the least of several runs, taken in turn. Nothing is cleared between runs; the tables are written by both
+ * tablers before the judges read them. Ends with 1 where counting takes more than its budget beside judging, or a jump
+ * more than its own. */
 #include <stdio.h>
 
 #include "clock.h"
@@ -216,7 +217,7 @@ static void streams(const char *what, const unsigned *bits, const char *const *n
     for (int s = 0; s < sizes; s++)
         most = 1e9 * c[s].library > most ? 1e9 * c[s].library : most;
     over_budget |= most >= stream_budget;
-    printf("%-34s %-26s at most %.0f ns, of a budget of %.0f%s\n", "", "", most, stream_budget,
+    printf("%-34s %-26s the slowest size %.0f ns, of a budget of %.0f%s\n", "", "", most, stream_budget,
            most >= stream_budget ? ": OVER IT" : "");
 }
 

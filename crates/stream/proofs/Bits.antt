@@ -12,12 +12,12 @@ use Rattle.word.proofs.Tests.{by-order}
 use Rattle.stream_spec.specs.Stream.{advances}
 use Rattle.stream_spec.specs.Pairs.{applied, table}
 use Rattle.stream_spec.specs.declared.Pair.{Pair}
-use Rattle.stream_law.proofs.Advances.{advances-none, advances-add, entry, leaps}
+use Rattle.stream_law.proofs.Advances.{advances-none, advances-add, entry, pair-advances}
 
 -- a number by its halves
 halves : (k p : ℕ) → k * p ≡ k / 2 * (p * 2) + k % 2 * p
 halves k p =
-    let whole : (2 * (k / 2) + k % 2) * p ≡ k * p = ap (λ (x : ℕ). x * p) (div-add-mod k 2) in
+    let joined : (2 * (k / 2) + k % 2) * p ≡ k * p = ap (λ (x : ℕ). x * p) (div-add-mod k 2) in
     omega arith
 
 -- one bit done: what is left of the draws, from where the bit led
@@ -32,7 +32,7 @@ falls k i = rw (add-one i, pow-suc 2 i) (omega (arith, halves k (2 ^ i)))
 pub set-bit : (k i s : ℕ) (pairs : List Pair) (d : Pair) → pairs ≡ table → i < 64 → k % 2 ≡ 1
     → applied (getD pairs i d) s ≡ advances (k % 2 * 2 ^ i) s
 set-bit k i s pairs d is small h =
-    rw (h, one-mul (2 ^ i)) (ap (λ (p : Pair). applied p s) (ap (λ (xs : List Pair). getD xs i d) is ∙ entry i d small) ∙ leaps i s)
+    rw (h, one-mul (2 ^ i)) (ap (λ (p : Pair). applied p s) (ap (λ (xs : List Pair). getD xs i d) is ∙ entry i d small) ∙ pair-advances i s)
 
 pub clear-bit : (k i s : ℕ) → (k % 2 ≡ 1 → ⊥) → s ≡ advances (k % 2 * 2 ^ i) s
 clear-bit k i s h =

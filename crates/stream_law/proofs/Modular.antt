@@ -1,15 +1,10 @@
--- A factor may be reduced first; and two affine steps, one after the other, are one.
+-- A second factor may be reduced first; and two affine steps, one after the other, are one.
 -- Assumes nothing.
 use mathlib.Core.Path.{_≡_, sym, _∙_, ap}
-use Prim.Native.Nat.{ℕ, _+_, _*_, _/_, _%_}
+use Prim.Native.Nat.{ℕ, _+_, _*_, _%_}
 use native.Mathlib.Omega.{arith}
-use native.Mathlib.Nat.{div-add-mod, add-mul-mod-self-left, mul-comm, mod-add-mod, add-mod-mod}
-
-mod-mul : (a b n : ℕ) → a % n * b % n ≡ a * b % n
-mod-mul a b n =
-    let whole : (n * (a / n) + a % n) * b ≡ a * b = ap (λ (x : ℕ). x * b) (div-add-mod a n) in
-    let taken : a % n * b + n * (a / n * b) ≡ a * b = omega arith in
-    sym (add-mul-mod-self-left (a % n * b) n (a / n * b)) ∙ ap (λ (x : ℕ). x % n) taken
+use native.Mathlib.Nat.{mul-comm, mod-add-mod, add-mod-mod}
+use Rattle.word.proofs.Modulo.{mod-mul}
 
 pub mul-mod : (a b n : ℕ) → a * (b % n) % n ≡ a * b % n
 mul-mod a b n = ap (λ (x : ℕ). x % n) (mul-comm a (b % n)) ∙ mod-mul b a n ∙ ap (λ (x : ℕ). x % n) (mul-comm b a)

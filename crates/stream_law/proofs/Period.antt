@@ -3,7 +3,7 @@
 -- Assumes nothing.
 use mathlib.Core.Path.{_≡_, refl, sym, _∙_, ap}
 use mathlib.Core.Logic.{_↔_}
-use Prim.Native.Nat.{ℕ, zero, suc, _+_, _-_, _*_, _/_, _%_, _^_, _≤_, _<_}
+use Prim.Native.Nat.{ℕ, zero, suc, _+_, _-_, _*_, _/_, _%_, _^_, _<_}
 use native.Mathlib.Omega.{arith}
 use native.Mathlib.Nat.{div-add-mod, mul-mod-right, pow-suc}
 use Rattle.word.proofs.Tests.{by-order}
@@ -11,7 +11,7 @@ use Rattle.stream_spec.specs.Stream.{advances}
 use Rattle.stream_spec.specs.Pairs.{applied, doubled, pairOf}
 use Rattle.stream_spec.specs.declared.Pair.{Pair}
 use Rattle.stream_law.proofs.Modular.{mul-mod}
-use Rattle.stream_law.proofs.Advances.{advances-none, advances-add, whole, leaps}
+use Rattle.stream_law.proofs.Advances.{advances-none, advances-add, stays-whole, pair-advances}
 
 pub last-pair : pairOf 63 ≡ record { multiplier = 1; increment = 2 ^ 63 }
 unfolding pairOf doubled
@@ -22,10 +22,10 @@ unfolding pairOf doubled
 pair-after = refl
 
 half-way : (s : ℕ) → advances (2 ^ 63) s ≡ (s + 2 ^ 63) % 2 ^ 64
-half-way s = sym (leaps 63 s) ∙ ap (λ (p : Pair). applied p s) last-pair ∙ omega arith
+half-way s = sym (pair-advances 63 s) ∙ ap (λ (p : Pair). applied p s) last-pair ∙ omega arith
 
 round : (s : ℕ) → s < 2 ^ 64 → advances (2 ^ 64) s ≡ s
-round s h = sym (leaps 64 s) ∙ ap (λ (p : Pair). applied p s) pair-after ∙ omega arith
+round s h = sym (pair-advances 64 s) ∙ ap (λ (p : Pair). applied p s) pair-after ∙ omega arith
 
 rounds : (q s : ℕ) → s < 2 ^ 64 → advances (q * 2 ^ 64) s ≡ s
 rounds zero s h = advances-none s
@@ -78,7 +78,7 @@ module _ (s : ℕ) (h : s < 2 ^ 64) where
 later : (s i d : ℕ) → s < 2 ^ 64 → d < 2 ^ 64 → advances i s ≡ advances (d + i) s → d ≡ 0
 later s i d h small e =
     let back : advances d (advances i s) ≡ advances i s = sym (advances-add d i s) ∙ sym e in
-    omega (arith, leads-back (advances i s) (whole i s h) d .0 back)
+    omega (arith, leads-back (advances i s) (stays-whole i s h) d .0 back)
 
 pub one-place : (s i j : ℕ) → s < 2 ^ 64 → i < 2 ^ 64 → j < 2 ^ 64 → advances i s ≡ advances j s → i ≡ j
 one-place s i j h low high e =

@@ -13,9 +13,8 @@ use Rattle.stream_spec.specs.Pairs.{doubled, pairsFrom, table, pairOf}
 use Rattle.stream_spec.specs.declared.Pair.{Pair}
 use Rattle.stream_spec.specs.Host.{hosts, ownDraws, startOf}
 use Rattle.stream_law.specs.Streams.{Whole, Streams}
-use Rattle.stream_law.proofs.Advances.{advances-none, advances-add, entry, leaps}
-use Rattle.stream_law.proofs.Period.{pair-after, leads-back, one-place}
-use Rattle.stream_law.proofs.Period as period
+use Rattle.stream_law.proofs.Advances.{advances-none, advances-add, entry, pair-advances}
+use Rattle.stream_law.proofs.Period.{pair-after, leads-back, one-place, two-jumps as jumps-of-a-state}
 
 abbrev at : ℕ → Generator
 at s = record { state = s }
@@ -70,9 +69,9 @@ streams = record {
   no-draw = λ g. ap at (advances-none (g .state));
   one-more = one-more;
   table-entry = table-entry;
-  pair-of-draws = λ i s. ap at (sym (leaps i s));
+  pair-of-draws = λ i s. ap at (sym (pair-advances i s));
   pair-after-last = pair-after-last;
-  two-jumps = λ j k g w. ap at (period.two-jumps j k (g .state) w);
+  two-jumps = λ j k g w. ap at (jumps-of-a-state j k (g .state) w);
   period = λ n g w. (
     λ back. leads-back (g .state) w n .0 (ap (λ (x : Generator). x .state) back),
     λ e. ap at (leads-back (g .state) w n .1 e),

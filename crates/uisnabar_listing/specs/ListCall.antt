@@ -11,6 +11,7 @@ module _ (program text written answer : List ℕ) where
   unfoldable pub listTextLeft : List ℕ
   listTextLeft = toldBuffer written answer (listedIn program text) text
 
+  -- the bytes written, 0 on refusal
   unfoldable pub listWrittenLeft : List ℕ
   listWrittenLeft = toldNumber written answer (listed program text .written)
 

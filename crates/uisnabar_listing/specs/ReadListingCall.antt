@@ -10,5 +10,6 @@ pub record ReadListingCall (text program written answer programAfter writtenAfte
   pub means : Means text sense
   pub verdict : returned ≡ toldReturned written answer (assembled sense program .answer)
   pub programLeft : programAfter ≡ toldBuffer written answer (assembledIn sense program) program
+  -- the bytes written, 0 on refusal
   pub writtenLeft : writtenAfter ≡ toldNumber written answer (assembled sense program .written)
   pub answerLeft : answerAfter ≡ toldAnswer written answer (assembled sense program .answer)

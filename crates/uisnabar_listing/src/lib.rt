@@ -18,9 +18,9 @@ pub fn list_call(program: &[u8], text: &mut [u8], written: &mut [u8], answer: &m
     if !told_fits(written.len(), answer.len()) {
         return misfit();
     }
-    let done = list(program, text);
-    let a = done.answer;
-    tell(a, done.written, written, answer)
+    let listed = list(program, text);
+    let a = listed.answer;
+    tell(a, listed.written, written, answer)
 }
 
 // A listing's program. ANSWER comes first.

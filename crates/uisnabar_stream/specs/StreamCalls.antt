@@ -5,7 +5,7 @@ use Prim.Native.Nat.{ℕ}
 use mathlib.Core.List.{List}
 use Rattle.answer.specs.declared.Answer.the-variants.{Accepted}
 use Rattle.reply.specs.Told.{toldReturned, toldNumber, toldAnswer}
-use Rattle.stream_spec.specs.Stream.{advances}
+use Rattle.stream_spec.specs.Stream.{after}
 use Rattle.stream_spec.specs.Host.{startOf}
 use Rattle.stream_spec.specs.declared.Started.{Started}
 
@@ -16,9 +16,9 @@ module _ (next answer : List ℕ) where
   unfoldable pub jumpAnswerLeft : List ℕ
   jumpAnswerLeft = toldAnswer next answer Accepted
 
--- so many advances of the state
+-- the state so many draws further on
 unfoldable pub jumpNextLeft : ℕ → ℕ → List ℕ → List ℕ → List ℕ
-jumpNextLeft state draws next answer = toldNumber next answer (advances draws state)
+jumpNextLeft state draws next answer = toldNumber next answer (after draws (record { state = state }) .state)
 
 module _ (seed host : ℕ) (next answer : List ℕ) where
   abbrev started : Started

@@ -1,5 +1,5 @@
 -- `uisnabar_listing::read_listing_call` meets its contract: ANSWER, or what is told.
-use mathlib.Core.Path.{refl, sym, _∙_}
+use mathlib.Core.Path.{sym, _∙_}
 use borrow.Author.Needs.{needs}
 use borrow.Author.Tests.{not-true, not-false}
 use Rattle.reply.proofs.Telling.{wholes, told, left}
