@@ -3,16 +3,9 @@ what a line must be told that no listing has; and where a text leaves every vali
 import re
 from itertools import product
 
-from cli_run import ROOT
 from oracle import P
 
 TOP, MOST, LF, CR = P - 1, 2**20, b"\n", b"\r"
-PAGE = (ROOT / "docs/LISTING.md").read_text()
-# what the page says of a place, and what its words in capitals stand for
-NAMES = {"WORDS": "[a-z0-1]+[:=]?(?:, [a-z]+[:=]?)*(?: or [a-z0-1]+[:=]?)?", "COLUMN": "[0-9]+", "FIELD": "[a-z]+=",
-         "NEXT": "(?:LF|a space before [a-z]+=)", "MOST": "(?:2130706432|1048576)"}
-ROWS = [re.sub("[A-Z]{4,}", lambda name: NAMES[name[0]], re.escape(words)) for words in
-        re.findall(r"^\| .+ \| (.+ is expected here.*) \|$", PAGE, re.M)]
 
 # a line, and its instruction (operands; fA, fB, fC, fpC, fpAB; MUL, JUMP, AUX; DATA)
 GOOD = {

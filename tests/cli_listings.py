@@ -11,14 +11,20 @@ import subprocess
 import cli_cases
 import oracle
 import shelf
-from cli_listing_cases import BAD, FORMS, FOUND, GOOD, LONGEST, MOST, PAGE, ROWS, SHORTEST, place
+from cli_listing_cases import BAD, FORMS, FOUND, GOOD, LONGEST, MOST, SHORTEST, place
 from cli_run import COMMAND, ROOT, as_nobody, check, could_not, limited, run, unwritable
 from oracle import P, bytes_of, six
 
 LISTING, PROGRAM, NEXT = pathlib.Path("listing"), pathlib.Path("assembled"), pathlib.Path(".assembled.assembling")
+PAGE = (ROOT / "docs/LISTING.md").read_text()
 HELD = b"what it held"
 TEXT = "".join(line + "\n" for line in GOOD).encode()
 WORDS = bytes_of([word for words in GOOD.values() for word in words])
+# what the page says of a place, and what its words in capitals stand for
+NAMES = {"WORDS": "[a-z0-1]+[:=]?(?:, [a-z]+[:=]?)*(?: or [a-z0-1]+[:=]?)?", "COLUMN": "[0-9]+", "FIELD": "[a-z]+=",
+         "NEXT": "(?:LF|a space before [a-z]+=)", "MOST": "(?:2130706432|1048576)"}
+ROWS = [re.sub("[A-Z]{4,}", lambda name: NAMES[name[0]], re.escape(words)) for words in
+        re.findall(r"^\| .+ \| (.+ is expected here.*) \|$", PAGE, re.M)]
 AT = re.compile(r"LISTING: line (\d+), column (\d+): (.+ is expected here)(.*)\n")
 
 
