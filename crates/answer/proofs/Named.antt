@@ -1,9 +1,10 @@
--- The six numbers name one answer: a table from the verdict gives the answer back.
+-- The six numbers name one answer: a table from the verdict gives the answer back. 12 stands for none.
 -- Assumes nothing.
 use mathlib.Core.Path.{_≡_, refl, sym, ap, _∙_}
 use mathlib.Core.Bool.{true}
 use mathlib.Core.List.{[], _∷_}
 use Prim.Native.Nat.{ℕ}
+use native.Mathlib.Omega.{arith}
 use lib.ListN.{getD}
 use borrow.Author.Tests.{eqb-true}
 use Rattle.answer.specs.Verdicts.{numbersOf, accepted}
@@ -22,7 +23,6 @@ use Rattle.answer.specs.declared.Answer.the-variants.{
   Stuck,
   Room,
   Open,
-  Itself,
   Buffer,
   Grid,
   Edition,
@@ -46,7 +46,7 @@ answerIn verdict part place rule expected found =
     ∷ Stuck place rule
     ∷ Room place
     ∷ Open place
-    ∷ Itself
+    ∷ Accepted
     ∷ Buffer
     ∷ Grid
     ∷ Edition place
@@ -72,7 +72,6 @@ named-back (Label place) = refl
 named-back (Stuck row rule) = refl
 named-back (Room row) = refl
 named-back (Open row) = refl
-named-back Itself = refl
 named-back Buffer = refl
 named-back Grid = refl
 named-back (Edition place) = refl
@@ -82,6 +81,10 @@ named-back Host = refl
 
 pub one-number : (a b : Answer) → numbersOf a ≡ numbersOf b → a ≡ b
 one-number a b e = sym (named-back a) ∙ ap named e ∙ named-back b
+
+-- no answer has number 12
+pub no-twelve : (a : Answer) → numbersOf a .verdict ≡ 12 → ⊥
+no-twelve a e = let is : a ≡ Accepted = sym (named-back a) ∙ rw e in omega (arith, ap (λ (x : Answer). numbersOf x .verdict) is)
 
 -- verdict 0 is ACCEPTED's alone
 pub verdict-zero : (a : Answer) → numbersOf a .verdict ≡ 0 → a ≡ Accepted

@@ -1,6 +1,6 @@
 -- Document 01, "Verdicts", and document 02, M-104: an answer is six numbers, verdict, part, place, rule, expected and
 -- found; unnamed ones are 0.
--- This is the one place that gives the paper's numbers.
+-- This is the one place that gives the paper's numbers. 12 is no verdict's: it was SELF's, which M-107 retired.
 -- Declared in src/: Numbers, Answer (here).
 use Prim.Native.Nat.{ℕ}
 use mathlib.Core.Bool.{Bool}
@@ -20,7 +20,6 @@ use Rattle.answer.specs.declared.Answer.the-variants.{
   Stuck,
   Room,
   Open,
-  Itself,
   Buffer,
   Grid,
   Edition,
@@ -49,7 +48,6 @@ numbersOf (Label place) = four 8 0 place 0
 numbersOf (Stuck row rule) = four 9 0 row rule
 numbersOf (Room row) = four 10 0 row 0
 numbersOf (Open row) = four 11 0 row 0
-numbersOf Itself = four 12 0 0 0
 numbersOf Buffer = four 13 0 0 0
 numbersOf Grid = four 14 0 0 0
 numbersOf (Edition place) = four 15 0 place 0

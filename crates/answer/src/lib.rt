@@ -46,7 +46,6 @@ pub enum Answer {
     Open {
         row: u32,
     },
-    Itself,
     Buffer,
     Grid,
     Edition {
@@ -118,7 +117,6 @@ pub fn six_numbers(a: Answer) -> Numbers
         Answer::Stuck { row, rule } => four(9, 0, row, rule),
         Answer::Room { row } => four(10, 0, row, 0),
         Answer::Open { row } => four(11, 0, row, 0),
-        Answer::Itself => four(12, 0, 0, 0),
         Answer::Buffer => four(13, 0, 0, 0),
         Answer::Grid => four(14, 0, 0, 0),
         Answer::Edition { place } => four(15, 0, place, 0),

@@ -14,7 +14,7 @@ use Rattle.rows.specs.declared.Ext.{Ext}
 use Rattle.answer.specs.Verdicts.{six, numbersOf}
 use Rattle.answer.specs.declared.Numbers.{Numbers}
 use Rattle.answer.specs.declared.Answer.{Answer}
-use Rattle.answer.specs.declared.Answer.the-variants.{Accepted, Size, Word, Instruction as Malformed, Start, Exec as ExecRefused, Extension, Bus, Label, Stuck, Room, Open, Itself, Buffer, Grid, Edition, Listing, Short, Host}
+use Rattle.answer.specs.declared.Answer.the-variants.{Accepted, Size, Word, Instruction as Malformed, Start, Exec as ExecRefused, Extension, Bus, Label, Stuck, Room, Open, Buffer, Grid, Edition, Listing, Short, Host}
 use Rattle.rules.specs.Given.{Given, Rule, rule}
 use Rattle.rules.specs.Execution.{execRules}
 use Rattle.rules.specs.Extension.{extRules}
@@ -125,7 +125,6 @@ module _ (q : Parts) where
   says-narrow (Stuck r n) x = absurd x
   says-narrow (Room r) x = absurd x
   says-narrow (Open r) x = absurd x
-  says-narrow Itself x = absurd x
   says-narrow Buffer x = absurd x
   says-narrow Grid x = absurd x
   says-narrow (Edition place) x = absurd x

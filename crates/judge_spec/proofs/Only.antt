@@ -7,7 +7,7 @@ use Prim.Native.Nat.{ℕ, zero, suc, _<_}
 use native.Mathlib.Omega.{arith}
 use lib.Dec.{T}
 use Rattle.answer.specs.declared.Answer.{Answer}
-use Rattle.answer.specs.declared.Answer.the-variants.{Accepted, Size, Word, Instruction, Start, Exec as ExecRefused, Extension, Bus, Label, Stuck, Room, Open, Itself, Buffer, Grid, Edition, Listing, Short, Host}
+use Rattle.answer.specs.declared.Answer.the-variants.{Accepted, Size, Word, Instruction, Start, Exec as ExecRefused, Extension, Bus, Label, Stuck, Room, Open, Buffer, Grid, Edition, Listing, Short, Host}
 use Rattle.rules.specs.Given.{Given, Tables, Rule}
 use Rattle.rules.specs.Lookups.{Lookup, execLookups, extLookups, foundUnder}
 use Rattle.rules.specs.Bus.{pulled}
@@ -139,7 +139,6 @@ module _ (q : Parts) where
   only (Stuck r n) x = absurd x
   only (Room r) x = absurd x
   only (Open r) x = absurd x
-  only Itself x = absurd x
   only Buffer x = absurd x
   only Grid x = absurd x
   only (Edition place) x = absurd x

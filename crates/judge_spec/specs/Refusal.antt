@@ -11,7 +11,7 @@ use lib.Dec.{T}
 use Rattle.word.specs.Word.{p, IsWord}
 use Rattle.form.specs.Form.{wellFormed}
 use Rattle.answer.specs.declared.Answer.{Answer}
-use Rattle.answer.specs.declared.Answer.the-variants.{Accepted, Size, Word, Instruction, Start, Exec as ExecRefused, Extension, Bus, Label, Stuck, Room, Open, Itself, Buffer, Grid, Edition, Listing, Short, Host}
+use Rattle.answer.specs.declared.Answer.the-variants.{Accepted, Size, Word, Instruction, Start, Exec as ExecRefused, Extension, Bus, Label, Stuck, Room, Open, Buffer, Grid, Edition, Listing, Short, Host}
 use Rattle.rules.specs.Given.{Given, Tables, Rule, rule}
 use Rattle.rules.specs.Lookups.{Lookup, execLookups, extLookups}
 use Rattle.rules.specs.Bus.{Tuple, pushes, pulled, pulls, pushedTo, pulledTo, instructionOf}
@@ -182,7 +182,6 @@ module _ (q : Parts) where
   Says (Stuck r n) = ⊥
   Says (Room r) = ⊥
   Says (Open r) = ⊥
-  Says Itself = ⊥
   Says Buffer = ⊥
   Says Grid = ⊥
   Says (Edition place) = ⊥

@@ -14,7 +14,8 @@ use Rattle.answer.specs.declared.Answer.the-variants.{Accepted, Size}
 use Rattle.label.specs.Label.{ranged}
 use Rattle.label.specs.declared.Recipe.{Recipe}
 use Rattle.label.proofs.Range.{m-low, n-high}
-use Rattle.maker.specs.Bytes.{instructionsOf, cellsOf, recipeDraws, makeOf, programAfter, memoryAfter}
+use Rattle.maker_spec.specs.Made.{flat}
+use Rattle.maker_spec.specs.Bytes.{instructionsOf, cellsOf, recipeDraws, makeOf, programAfter, memoryAfter}
 
 module _ (r : Recipe) (p q : List ℕ) where
   -- an answer and the two buffers are what the promise says
@@ -44,10 +45,10 @@ module _ (r : Recipe) (p q : List ℕ) where
     room h = omega (arith, pow-le-pow-right {n = 2} (lit< tt) (m-low r inside), n-high r inside)
 
     pub filled : length p ≡ 48 * (r .n + 1) → length q ≡ 4 * 2 ^ r .m → {program memory : List ℕ}
-        → program ≡ instructionsOf (recipeDraws r) (r .n) (r .n + 1) → memory ≡ cellsOf (recipeDraws r) (r .n) (length q / 4) → Kept Accepted program memory
+        → program ≡ instructionsOf flat (recipeDraws r) (r .n) (r .n + 1) → memory ≡ cellsOf flat (recipeDraws r) (r .n) (length q / 4) → Kept Accepted program memory
     unfolding makeOf
     filled g h eq em =
         let d = eq-eqb (length p) (48 * (r .n + 1)) g in
         let e = eq-eqb (length q) (4 * 2 ^ r .m) h in
         let size : length q / 4 ≡ 2 ^ r .m = omega arith in
-        (rw (inside, d, e), rw (inside, d, e) eq, rw (inside, d, e) (em ∙ ap (cellsOf (recipeDraws r) (r .n)) size))
+        (rw (inside, d, e), rw (inside, d, e) eq, rw (inside, d, e) (em ∙ ap (cellsOf flat (recipeDraws r) (r .n)) size))

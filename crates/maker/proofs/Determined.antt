@@ -7,7 +7,7 @@ use lib.ListN.{length}
 use Rattle.answer.specs.Determined.{Determined, equations-of-three}
 use Rattle.answer.specs.declared.Answer.{Answer}
 use Rattle.label.specs.declared.Recipe.{Recipe}
-use Rattle.maker.specs.Bytes.{makeOf, programAfter, memoryAfter}
+use Rattle.maker_spec.specs.Bytes.{makeOf, programAfter, memoryAfter}
 
 pub make-determined : (r : Recipe) (program memory : List ℕ)
     → Determined (λ (x : Answer × List ℕ × List ℕ).

@@ -1,10 +1,5 @@
 pub mod Parts
-pub mod Making
-pub mod Cells
+pub mod Eight
 pub mod Filling
 pub mod Answers
-pub mod WellFormed
-pub mod ReadBack
-pub mod Seeds
-pub mod Versions
 pub mod Determined

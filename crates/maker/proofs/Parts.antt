@@ -9,11 +9,6 @@ use lib.ListN.{length, take, drop, getD, replicate, length-append, length-drop, 
 use lib.Seq.{take-at, drop-at, drop-drop}
 use Rattle.word.specs.Bytes.{bytesOf, withWord, concatenated}
 use Rattle.word.proofs.Concatenated.{parts-length, parts-one}
-use Rattle.maker.specs.Bytes.{wordBytes}
-
--- four bytes for each word
-pub words-length : (words : List ℕ) → length (wordBytes words) ≡ 4 * length words
-words-length words = parts-length _ 4 (λ k. refl) (length words)
 
 -- words that are 0 are bytes that are 0
 pub zero-parts : (n : ℕ) → concatenated (λ k. bytesOf 0) n ≡ replicate (4 * n) 0

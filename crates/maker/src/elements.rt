@@ -5,7 +5,7 @@ use form::Op;
 ghost use mathlib.Core.Path.{_≡_};
 ghost use Prim.Native.Nat.{_+_, _*_, _%_, _≤_, _<_};
 ghost use Rattle.machine.specs.Extension.{elementAt, leftAt, rightAt, termOf, joined, result};
-ghost use Rattle.maker.specs.Made.{opPicked, bePicked, countPicked};
+ghost use Rattle.maker_spec.specs.Made.{opPicked, bePicked, countPicked, leftPicked, rightPicked};
 ghost use Rattle.maker.specs.Inner.{cellIn};
 
 // floor(c/2) mod 3 picks add, mul, peq.
@@ -63,7 +63,7 @@ fn with_element(
 
 // The one or two elements that an extension's draws name.
 pub(crate) fn result_of(cells: &[u32; 32], a: u32, c: u32) -> [u32; 5]
-    ensures { λ r. ⌜ r ≡ result (cellIn (now (cells .entry))) (opPicked c) (bePicked c) (a % 16) (16 + a % 4) 0 (countPicked c) ⌝ }
+    ensures { λ r. ⌜ r ≡ result (cellIn (now (cells .entry))) (opPicked c) (bePicked c) (leftPicked a) (rightPicked a) 0 (countPicked c) ⌝ }
 {
     let op = op_of(c);
     let be = c / 6 % 2 == 1;

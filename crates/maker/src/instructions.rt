@@ -3,10 +3,10 @@
 use crate::elements::op_of;
 use form::data_word;
 ghost use mathlib.Core.Path.{_≡_};
-ghost use Prim.Native.Nat.{_≤_};
+ghost use Prim.Native.Nat.{_≤_, _<_};
 ghost use Rattle.form.specs.Data.{dataWord};
 ghost use Rattle.form.specs.Instruction.{instructionWords};
-ghost use Rattle.maker.specs.Made.{opPicked, bePicked, countPicked, kindPicked, made, jumpTo};
+ghost use Rattle.maker_spec.specs.Made.{flat, opPicked, bePicked, countPicked, kindPicked, made, jumpTo};
 
 fn data_of(c: u32) -> u32
     ensures { λ r. ⌜ r ≡ dataWord (opPicked c) (bePicked c) (countPicked c) ⌝ }
@@ -15,8 +15,8 @@ fn data_of(c: u32) -> u32
 }
 
 pub(crate) fn made_words(i: u32, kind: u32, a: u32, c: u32) -> [u32; 12]
-    requires { ⌜ i ≤ 124 ⌝ }
-    ensures { λ r. ⌜ r ≡ instructionWords (made i (kindPicked kind c) a c) ⌝ }
+    requires { ⌜ (i ≤ 124) × (a < 32) × (c < 32) ⌝ }
+    ensures { λ r. ⌜ r ≡ instructionWords (made flat 0 i (kindPicked kind c) a c) ⌝ }
 {
     let slot = 32 + 8 * i;
     match kind {

@@ -11,7 +11,7 @@ use write::fill;
 ghost use mathlib.Core.Path.{_≡_};
 ghost use Prim.Native.Nat.{_*_, _^_, _≤_};
 ghost use lib.ListN.{length};
-ghost use Rattle.maker.specs.Bytes.{makeOf, programAfter, memoryAfter};
+ghost use Rattle.maker_spec.specs.Bytes.{makeOf, programAfter, memoryAfter};
 
 fn memory_size(m: u32) -> usize
     requires { ⌜ m ≤ 29 ⌝ }

@@ -4,12 +4,12 @@ use word::add;
 use word::mul;
 ghost use mathlib.Core.Path.{_≡_};
 ghost use Prim.Native.Nat.{_<_};
-ghost use Rattle.maker.specs.Made.{kindPicked, slotCells};
+ghost use Rattle.maker_spec.specs.Made.{flat, kindPicked, slotCells};
 ghost use Rattle.maker.specs.Inner.{cellIn, eight};
 
 pub(crate) fn slot_words(cells: &[u32; 32], kind: u32, a: u32, c: u32) -> [u32; 8]
     requires { ⌜ (a < 32) × (c < 32) ⌝ }
-    ensures { λ r. ⌜ r ≡ eight (slotCells (cellIn (now (cells .entry))) (kindPicked kind c) a c) ⌝ }
+    ensures { λ r. ⌜ r ≡ eight (slotCells flat (cellIn (now (cells .entry))) (kindPicked kind c) a c) ⌝ }
 {
     let x = cells[a as usize];
     let y = cells[c as usize];

@@ -13,9 +13,9 @@ ghost use Prim.Native.Nat.{_+_, _-_, _*_, _/_, _%_, _≤_, _<_};
 ghost use lib.ListN.{length, take, drop};
 ghost use Rattle.form.specs.Instruction.{instructionWords};
 ghost use Rattle.maker_draws.specs.Drawn.{drawsOf};
-ghost use Rattle.maker.specs.Made.{kindPicked, made, slotCells};
+ghost use Rattle.maker_spec.specs.Made.{flat, kindPicked, made, slotCells};
 ghost use Rattle.maker.specs.Inner.{cellIn, eight};
-ghost use Rattle.maker.specs.Bytes.{wordBytes, instructionsOf, cellsOf};
+ghost use Rattle.maker_spec.specs.Bytes.{wordBytes, instructionsOf, cellsOf};
 
 // Words, into as many bytes.
 fn put_words(words: &[u32], s: &mut [u8])
@@ -41,11 +41,11 @@ fn put_one(cells: &[u32; 32], i: u32, drawn: Three, program: &mut [u8], memory: 
     ensures { λ _. ⌜
         (now (program .exit)
         ≡ take (48 * i) (now (program .entry))
-        ++ (wordBytes (instructionWords (made i (kindPicked (drawn .kind) (drawn .c)) (drawn .a) (drawn .c)))
+        ++ (wordBytes (instructionWords (made flat 0 i (kindPicked (drawn .kind) (drawn .c)) (drawn .a) (drawn .c)))
         ++ drop (48 * i + 48 - 48 * i) (drop (48 * i) (now (program .entry)))))
         × (now (memory .exit)
         ≡ take (128 + 32 * i) (now (memory .entry))
-        ++ (wordBytes (eight (slotCells (cellIn (now (cells .entry))) (kindPicked (drawn .kind) (drawn .c)) (drawn .a) (drawn .c)))
+        ++ (wordBytes (eight (slotCells flat (cellIn (now (cells .entry))) (kindPicked (drawn .kind) (drawn .c)) (drawn .a) (drawn .c)))
         ++ drop (128 + 32 * i + 32 - (128 + 32 * i)) (drop (128 + 32 * i) (now (memory .entry)))))
         ⌝ }
 {
@@ -63,8 +63,8 @@ fn put_one(cells: &[u32; 32], i: u32, drawn: Three, program: &mut [u8], memory: 
 fn put_all(version: u32, seed: u64, n: u32, program: &mut [u8], memory: &mut [u8])
     requires { ⌜ (n ≤ 124) × (48 * n ≤ length (now program)) × (128 + 32 * n ≤ length (now memory)) ⌝ }
     ensures { λ _. ⌜
-        (now (program .exit) ≡ instructionsOf (drawsOf version seed) n n ++ drop (48 * n) (now (program .entry)))
-        × (now (memory .exit) ≡ cellsOf (drawsOf version seed) n (32 + 8 * n) ++ drop (128 + 32 * n) (now (memory .entry)))
+        (now (program .exit) ≡ instructionsOf flat (drawsOf version seed) n n ++ drop (48 * n) (now (program .entry)))
+        × (now (memory .exit) ≡ cellsOf flat (drawsOf version seed) n (32 + 8 * n) ++ drop (128 + 32 * n) (now (memory .entry)))
         ⌝ }
 {
     let begun = begin(version, seed);
@@ -92,8 +92,8 @@ pub(crate) fn fill(version: u32, seed: u64, n: u32, program: &mut [u8], memory: 
         × (length (now memory) % 4 ≡ 0)
         ⌝ }
     ensures { λ _. ⌜
-        (now (program .exit) ≡ instructionsOf (drawsOf version seed) n (n + 1))
-        × (now (memory .exit) ≡ cellsOf (drawsOf version seed) n (length (now (memory .entry)) / 4))
+        (now (program .exit) ≡ instructionsOf flat (drawsOf version seed) n (n + 1))
+        × (now (memory .exit) ≡ cellsOf flat (drawsOf version seed) n (length (now (memory .entry)) / 4))
         ⌝ }
 {
     put_all(version, seed, n, &mut *program, &mut *memory);

@@ -21,7 +21,6 @@ use Rattle.answer.specs.declared.Answer.the-variants.{
   Stuck,
   Room,
   Open,
-  Itself,
   Buffer,
   Grid,
   Edition,
@@ -117,7 +116,6 @@ module _ (i : Input) (exec ext : List ℕ) where
   kept (Stuck row rule) old written h l = absurd (omega arith)
   kept (Room row) old written h l = absurd (omega arith)
   kept (Open row) old written h l = absurd (omega arith)
-  kept Itself old written h l = refl
   kept Buffer old written h l = refl
   kept Grid old written h l = refl
   kept (Edition place) old written h l = refl
@@ -139,7 +137,6 @@ module _ (i : Input) (exec ext : List ℕ) where
   zeroed (Stuck row rule) old written h l = refl
   zeroed (Room row) old written h l = refl
   zeroed (Open row) old written h l = refl
-  zeroed Itself old written h l = absurd (omega arith)
   zeroed Buffer old written h l = absurd (omega arith)
   zeroed Grid old written h l = absurd (omega arith)
   zeroed (Edition place) old written h l = absurd (omega arith)

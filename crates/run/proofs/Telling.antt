@@ -25,7 +25,6 @@ use Rattle.answer.specs.declared.Answer.the-variants.{
   Stuck,
   Room,
   Open,
-  Itself,
   Buffer,
   Grid,
   Edition,
@@ -141,7 +140,6 @@ module _ (i : Input) (exec ext : List ℕ) where
       started (x .four)
       ∙ ending-open (machine i) (startOf i) (rowsIn exec) (extRowsIn ext) (some-room i exec ext (x .four)) (x .all) (x .bad)
       ∙ ap Open (sym (x .place))
-  tells-only Itself x = absurd x
   tells-only Buffer x = absurd x
   tells-only Grid x = absurd x
   tells-only (Edition place) x = absurd x

@@ -27,7 +27,6 @@ use Rattle.answer.specs.declared.Answer.the-variants.{
   Stuck,
   Room,
   Open,
-  Itself,
   Buffer,
   Grid,
   Edition,
@@ -158,7 +157,7 @@ module _ (i : Input) (exec ext : List ℕ) where
     pub legal : LegalRun i height state
     pub spare : Spare i height extHeight state
 
-  -- what an answer of the tabler says; the verdicts 5 to 8 and 12 to 15 are not the tabler's
+  -- what an answer of the tabler says; the verdicts 5 to 8, and 13 and above, are not the tabler's
   unfoldable pub Tells : Answer → Type 0
   Tells Accepted = AcceptedRun
   Tells (Size n place) = BadSize allParts n place
@@ -172,7 +171,6 @@ module _ (i : Input) (exec ext : List ℕ) where
   Tells (Stuck r reason) = StuckAt r reason
   Tells (Room r) = RoomAt r
   Tells (Open r) = OpenAt r
-  Tells Itself = ⊥
   Tells Buffer = ⊥
   Tells Grid = ⊥
   Tells (Edition place) = ⊥

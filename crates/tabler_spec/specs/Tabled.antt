@@ -20,7 +20,6 @@ use Rattle.answer.specs.declared.Answer.the-variants.{
   Stuck,
   Room,
   Open,
-  Itself,
   Buffer,
   Grid,
   Edition,
@@ -91,7 +90,6 @@ heldAfter (Label place) old written = old
 heldAfter (Stuck row rule) old written = replicate (length old) 0
 heldAfter (Room row) old written = replicate (length old) 0
 heldAfter (Open row) old written = replicate (length old) 0
-heldAfter Itself old written = old
 heldAfter Buffer old written = old
 heldAfter Grid old written = old
 heldAfter (Edition place) old written = old

@@ -50,6 +50,10 @@ unfolding _-ₚ_
 equal-words x y wx wy e = omega arith
 
 -- what is taken away comes back
+pub difference-sum : (x y : ℕ) → IsWord x → y +ₚ (x -ₚ y) ≡ x
+unfolding _+ₚ_ _-ₚ_
+difference-sum x y w = omega arith
+
 -- products
 pub product-comm : (x y : ℕ) → x *ₚ y ≡ y *ₚ x
 unfolding _*ₚ_

@@ -2,8 +2,8 @@
 use Prim.Native.Nat.{_+_, _%_}
 use native.Mathlib.Omega.{arith}
 use borrow.Author.Needs.{needs}
-use Rattle.maker.specs.Made.{bePicked}
-use Rattle.maker.proofs.Making.{data-small}
+use Rattle.maker_spec.specs.Made.{bePicked}
+use Rattle.maker_law.proofs.Making.{data-small}
 use Rattle.maker.proofs.instructions.data_of.Statement.{statement}
 use Rattle.maker.proofs.instructions.data_of.Tie as tie
 

@@ -2,7 +2,7 @@
 use Prim.Native.Nat.{_≤_}
 use native.Mathlib.Omega.{arith}
 use borrow.Author.Needs.{needs}
-use Rattle.maker.proofs.Making.{slot-extension}
+use Rattle.maker.proofs.Eight.{slot-extension}
 use Rattle.maker.specs.Inner.{cellIn}
 use Rattle.maker.proofs.slots.slot_words.Statement.{statement}
 use Rattle.maker.proofs.slots.slot_words.Tie as tie

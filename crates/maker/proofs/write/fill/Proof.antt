@@ -3,7 +3,7 @@ use mathlib.Core.Path.{ap, _∙_}
 use borrow.Author.Needs.{needs}
 use Rattle.maker.proofs.Filling.{program-ended, cells-ended, last-lent}
 use Rattle.maker_draws.specs.Drawn.{drawsOf}
-use Rattle.maker.specs.Bytes.{wordBytes}
+use Rattle.maker_spec.specs.Bytes.{wordBytes}
 use Rattle.maker.proofs.write.fill.Statement.{statement}
 use Rattle.maker.proofs.write.fill.Tie as tie
 

@@ -9,10 +9,11 @@ use borrow.Author.Needs.{needs}
 use lib.ListN.{length, drop}
 use Rattle.word.specs.Bytes.{concatenated}
 use Rattle.maker.proofs.Filling.{program-on, memory-on, begun-room, begun-lent, cells-begun, first-length, program-room, memory-room, below, fewer, next-below}
-use Rattle.maker.specs.Bytes.{instructionsOf, cellsOf}
+use Rattle.maker_spec.specs.Bytes.{instructionsOf, cellsOf}
 use Rattle.maker_draws.proofs.Drawing.{three-drawn}
 use Rattle.maker_draws.proofs.Cells.{begun-long, begun-cell, begun-state}
 use Rattle.maker_draws.specs.declared.Three.{Three}
+use Rattle.maker_spec.specs.Made.{flat}
 use Rattle.maker.proofs.Parts.{behind}
 use Rattle.maker_draws.specs.Drawn.{stateAfter, afterCells, drawsOf}
 use Rattle.maker.proofs.write.put_all.Statement.{statement}
@@ -24,8 +25,8 @@ Inv-loop version seed n program₀ memory₀ drawn generator₀ first end i₀ p
     × (length program ≡ length program₀)
     × (length memory ≡ length memory₀)
     × (generator .state ≡ stateAfter (afterCells version seed 32) (3 * i))
-    × (program ≡ instructionsOf (drawsOf version seed) n i ++ drop (48 * i) program₀)
-    × (memory ≡ cellsOf (drawsOf version seed) n (32 + 8 * i) ++ drop (128 + 32 * i) memory₀)
+    × (program ≡ instructionsOf flat (drawsOf version seed) n i ++ drop (48 * i) program₀)
+    × (memory ≡ cellsOf flat (drawsOf version seed) n (32 + 8 * i) ++ drop (128 + 32 * i) memory₀)
 
 abbrev μ-loop : tie.MeasureT-loop
 μ-loop version seed n program₀ memory₀ drawn generator₀ first end i₀ program memory generator i = n - i

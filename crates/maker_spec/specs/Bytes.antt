@@ -12,28 +12,29 @@ use Rattle.answer.specs.declared.Answer.the-variants.{Accepted, Size}
 use Rattle.label.specs.Label.{ranged}
 use Rattle.label.specs.declared.Recipe.{Recipe}
 use Rattle.maker_draws.specs.Drawn.{Draws, drawsOf}
-use Rattle.maker.specs.Made.{instructionMade, cellOf}
+use Rattle.maker_spec.specs.Made.{Profile, flat, instructionMade, cellOf}
 
 -- four bytes for each word
 abbrev pub wordBytes : List ℕ → List ℕ
 wordBytes words = concatenated (λ k. bytesOf (getD words k 0)) (length words)
 
 -- the first k instructions, of which n are drawn, and the first k cells
-abbrev pub instructionsOf : Draws → ℕ → ℕ → List ℕ
-instructionsOf d n k = concatenated (λ i. wordBytes (instructionWords (instructionMade d n i))) k
+abbrev pub instructionsOf : Profile → Draws → ℕ → ℕ → List ℕ
+instructionsOf profile d n k = concatenated (λ i. wordBytes (instructionWords (instructionMade profile d n i))) k
 
-abbrev pub cellsOf : Draws → ℕ → ℕ → List ℕ
-cellsOf d n k = concatenated (λ j. bytesOf (cellOf d n j)) k
+abbrev pub cellsOf : Profile → Draws → ℕ → ℕ → List ℕ
+cellsOf profile d n k = concatenated (λ j. bytesOf (cellOf profile d n j)) k
 
--- what is drawn for a recipe, as its version has it (document 02, M-103), and the two buffers that it makes
+-- what is drawn for a recipe, as its version has it (document 02, M-103), and the two buffers that it makes; every
+-- recipe is flat
 abbrev pub recipeDraws : Recipe → Draws
 recipeDraws r = drawsOf (r .version) (r .seed)
 
 abbrev pub programOf : Recipe → List ℕ
-programOf r = instructionsOf (recipeDraws r) (r .n) (r .n + 1)
+programOf r = instructionsOf flat (recipeDraws r) (r .n) (r .n + 1)
 
 abbrev pub memoryOf : Recipe → List ℕ
-memoryOf r = cellsOf (recipeDraws r) (r .n) (2 ^ r .m)
+memoryOf r = cellsOf flat (recipeDraws r) (r .n) (2 ^ r .m)
 
 -- parts 0, 1 and 2, the lowest that fails
 abbrev pub sizesFit : Recipe → ℕ → ℕ → Bool

@@ -10,14 +10,15 @@ use Rattle.maker_draws.specs.Drawn.{Draws}
 use Rattle.maker_draws.specs.Plain.{plainDraws}
 use Rattle.maker_draws.proofs.Versions.{first-plain, later-alike}
 use Rattle.maker_draws.proofs.Examples.{eight-thrown}
-use Rattle.maker.specs.Bytes.{instructionsOf, cellsOf, recipeDraws, programOf, memoryOf}
-use Rattle.maker.proofs.Seeds.{seeded, first-cell}
+use Rattle.maker_spec.specs.Made.{flat}
+use Rattle.maker_spec.specs.Bytes.{instructionsOf, cellsOf, recipeDraws, programOf, memoryOf}
+use Rattle.maker_law.proofs.Seeds.{seeded, first-cell}
 
 pub first-as-before : (r : Recipe) → r .version ≡ 1
-    → (programOf r ≡ instructionsOf (plainDraws (r .seed)) (r .n) (r .n + 1)) × (memoryOf r ≡ cellsOf (plainDraws (r .seed)) (r .n) (2 ^ r .m))
+    → (programOf r ≡ instructionsOf flat (plainDraws (r .seed)) (r .n) (r .n + 1)) × (memoryOf r ≡ cellsOf flat (plainDraws (r .seed)) (r .n) (2 ^ r .m))
 first-as-before r is =
     let e : recipeDraws r ≡ plainDraws (r .seed) = rw is (first-plain (r .seed)) in
-    (ap (λ (d : Draws). instructionsOf d (r .n) (r .n + 1)) e, ap (λ (d : Draws). cellsOf d (r .n) (2 ^ r .m)) e)
+    (ap (λ (d : Draws). instructionsOf flat d (r .n) (r .n + 1)) e, ap (λ (d : Draws). cellsOf flat d (r .n) (2 ^ r .m)) e)
 
 -- seed 00ffdb37cb0c5f43: eight draws of a later version are thrown away
 pub versions-differ : (m n version : ℕ) → eqb version 1 ≡ false → memoryOf (seeded m n 1 72017151737487171) ≡ memoryOf (seeded m n version 72017151737487171) → ⊥

@@ -13,27 +13,24 @@ use Rattle.form.specs.declared.Kind.{Kind}
 use Rattle.form.specs.declared.Op.{Op}
 use Rattle.machine.specs.Extension.{elementAt, leftAt, termOf, joined, result}
 use Rattle.maker_draws.specs.Drawn.{Draws}
-use Rattle.maker.specs.Made.{kindPicked, opPicked, bePicked, countPicked, slotCells, slotCell, cellOf}
-use Rattle.maker.specs.Inner.{eight}
-use Rattle.maker.proofs.Making.{by-kind}
+use Rattle.maker_spec.specs.Made.{Profile, slotSize, slot, kindPicked, opPicked, bePicked, countPicked, leftPicked, rightPicked, slotCells, slotCell, cellOf}
+use Rattle.maker_law.proofs.Making.{by-kind}
 
-module _ (d : Draws) (n : ℕ) where
-  pub drawn-cell : (k : ℕ) → k < 32 → cellOf d n k ≡ d .cell k
+module _ (profile : Profile) (d : Draws) (n : ℕ) where
+  pub drawn-cell : (k : ℕ) → k < 32 → cellOf profile d n k ≡ d .cell k
   unfolding cellOf
   drawn-cell k h = rw (lt-ltb k 32 h)
 
-  pub slot-cell : (i j : ℕ) → i < n → j < 8
-      → cellOf d n (32 + 8 * i + j) ≡ slotCell d i j
+  pub slot-cell : (i j : ℕ) → i < n → j < slotSize → cellOf profile d n (slot i + j) ≡ slotCell profile d i j
   unfolding cellOf
   slot-cell i j h b =
-      let slot : (32 + 8 * i + j - 32) / 8 ≡ i = omega arith in
-      let place : (32 + 8 * i + j - 32) % 8 ≡ j = omega arith in
-      rw (le-ltb (32 + 8 * i + j) 32 (omega arith), slot, place, lt-ltb i n h)
+      let number : (slot i + j - 32) / slotSize ≡ i = omega arith in
+      let place : (slot i + j - 32) % slotSize ≡ j = omega arith in
+      rw (le-ltb (slot i + j) 32 (omega arith), number, place, lt-ltb i n h)
 
-  pub cell-past : (j : ℕ) → cellOf d n (32 + 8 * n + j) ≡ 0
+  pub cell-past : (j : ℕ) → cellOf profile d n (slot n + j) ≡ 0
   unfolding cellOf
-  cell-past j =
-      rw (le-ltb (32 + 8 * n + j) 32 (omega arith), le-ltb ((32 + 8 * n + j - 32) / 8) n (omega arith))
+  cell-past j = rw (le-ltb (slot n + j) 32 (omega arith), le-ltb ((slot n + j - 32) / slotSize) n (omega arith))
 
 -- two memories with the same drawn cells have the same slots
 module _ (f g : ℕ → ℕ) (same : (k : ℕ) → k < 32 → f k ≡ g k) where
@@ -51,19 +48,13 @@ module _ (f g : ℕ → ℕ) (same : (k : ℕ) → k < 32 → f k ≡ g k) where
       ap₂ (joined op) (ap₂ (termOf op) (left-same be a i (omega arith)) (element-same (b + 5 * i) (omega arith)))
       (result-same op be a b (suc i) n (omega arith) (omega arith))
 
-  pub slot-same : (kind a c : ℕ) → a < 32 → c < 32 → slotCells f (kindPicked kind c) a c ≡ slotCells g (kindPicked kind c) a c
-  slot-same kind a c ha hc =
-      by-kind (λ (k : Kind). slotCells f k a c ≡ slotCells g k a c) kind c (rw (same a ha, same c hc)) (rw (same a ha, same c hc)) (rw (same a ha)) refl
-      (result-same (opPicked c) (bePicked c) (a % 16) (16 + a % 4) 0 (countPicked c) (omega arith) (omega arith))
+  -- an extension's elements lie among the drawn cells
+  pub picked-same : (a c : ℕ) → (let n = countPicked c in
+      result f (opPicked c) (bePicked c) (leftPicked a) (rightPicked a) 0 n ≡ result g (opPicked c) (bePicked c) (leftPicked a) (rightPicked a) 0 n)
+  picked-same a c = result-same (opPicked c) (bePicked c) (leftPicked a) (rightPicked a) 0 (countPicked c) (omega arith) (omega arith)
 
--- eight words, by number
-pub eight-at : (l : List ℕ) (j : ℕ) → j < 8 → getD (eight l) j 0 ≡ getD l j 0
-eight-at l zero h = refl
-eight-at l (suc zero) h = refl
-eight-at l (suc (suc zero)) h = refl
-eight-at l (suc (suc (suc zero))) h = refl
-eight-at l (suc (suc (suc (suc zero)))) h = refl
-eight-at l (suc (suc (suc (suc (suc zero))))) h = refl
-eight-at l (suc (suc (suc (suc (suc (suc zero)))))) h = refl
-eight-at l (suc (suc (suc (suc (suc (suc (suc zero))))))) h = refl
-eight-at l (suc (suc (suc (suc (suc (suc (suc (suc j)))))))) h = absurd (omega arith)
+  pub slot-same : (profile : Profile) (kind a c : ℕ) → a < 32 → c < 32
+      → slotCells profile f (kindPicked kind c) a c ≡ slotCells profile g (kindPicked kind c) a c
+  slot-same profile kind a c ha hc =
+      by-kind (λ (k : Kind). slotCells profile f k a c ≡ slotCells profile g k a c) kind c (rw (same a ha, same c hc)) (rw (same a ha, same c hc))
+      (rw (same a ha)) refl (picked-same a c)

@@ -15,9 +15,11 @@ use Rattle.label.specs.declared.Recipe.{Recipe}
 use Rattle.draw.specs.Draw.{advance}
 use Rattle.maker_draws.specs.Drawn.{stateAfter, drawn, drawsOf}
 use Rattle.maker_draws.proofs.Versions.{first-kept}
-use Rattle.maker.specs.Bytes.{memoryOf}
-use Rattle.maker.proofs.ReadBack.{cell-read}
-use Rattle.maker.proofs.Cells.{drawn-cell}
+use Rattle.maker_spec.specs.Made.{flat}
+use Rattle.maker_spec.specs.Bytes.{memoryOf}
+use Rattle.maker_law.proofs.WellFormed.{drawable}
+use Rattle.maker_law.proofs.ReadBack.{cell-read}
+use Rattle.maker_law.proofs.Cells.{drawn-cell}
 
 -- a multiple of 2^32 that is added to the state shows in its upper half, modulo 2^32
 shows : (x y : ℕ) → x % 2 ^ 64 / 2 ^ 32 ≡ (x + 2 ^ 32 * y) % 2 ^ 64 / 2 ^ 32 → y % 2 ^ 32 ≡ 0
@@ -51,7 +53,7 @@ module _ (m n : ℕ) where
   first-cell v w x y e = sym (read v x) ∙ ap (λ (s : List ℕ). wordAt s 0) e ∙ read w y
     where
       read : (version seed : ℕ) → wordAt (memoryOf (seeded version seed)) 0 ≡ drawsOf version seed .cell 0
-      read version seed = cell-read (seeded version seed) 0 (pow-pos m) ∙ drawn-cell (drawsOf version seed) n 0 (lit< tt)
+      read version seed = cell-read flat (drawsOf version seed) n (drawable version seed) (2 ^ m) 0 (pow-pos m) ∙ drawn-cell flat (drawsOf version seed) n 0 (lit< tt)
 
   -- which is the first draw modulo p where that is below 2·p, whatever the versions
   module _ (v w : ℕ) where

@@ -1,0 +1,4 @@
+pub mod Steps
+pub mod Run
+pub mod Accepted
+pub mod Runs
