@@ -21,7 +21,7 @@ use Rattle.run.proofs.Tabler.{run-accepted, run-left, own-bytes, refusal-keeps,
 use Rattle.mission.specs.One.{DemandOne}
 use Rattle.mission.specs.Two.{DemandTwo}
 use Rattle.mission.specs.Three.{DemandThree}
-use Rattle.answer.proofs.Named.{one-number}
+use Rattle.answer.proofs.Named.{one-number, no-twelve}
 use Rattle.mission.proofs.Effects.{maker-keeps, writer-keeps, reader-zeroes, judge-call-answer, reader-call-answer, reader-call-keeps}
 use Rattle.mission.proofs.Driver.{driver-reads}
 use Rattle.mission.proofs.LabelDriver.{driver-reads-label}
@@ -42,6 +42,7 @@ demand-one =
       program-one = output-determined;
       reader-some = reading-some;
       one-number = one-number;
+      no-twelve = no-twelve;
       tabler-keeps = refusal-keeps;
       tabler-zeroes = refusal-zeroes;
       maker-keeps = maker-keeps;

@@ -20,7 +20,7 @@ use Rattle.label.specs.Reading.{Reads}
 use Rattle.label.specs.Writing.{written, buffered}
 use Rattle.label.specs.declared.Recipe.{Recipe}
 use Rattle.label.specs.declared.Reading.{Reading}
-use Rattle.maker.specs.Bytes.{makeOf, programAfter, memoryAfter}
+use Rattle.maker_spec.specs.Bytes.{makeOf, programAfter, memoryAfter}
 use Rattle.rules.specs.Sizes.{Parts}
 use Rattle.run.specs.Runs.{Input}
 use Rattle.uisnabar.specs.Calls.{recipeBytes}
@@ -50,6 +50,8 @@ pub record DemandOne : Type 0 where
   pub reader-some : (text : List ℕ) → (r : Reading) × Reads text r
   -- each refusal has one number: six numbers name one answer
   pub one-number : (a b : Answer) → numbersOf a ≡ numbersOf b → a ≡ b
+  -- and 12 is no answer's: it was SELF's, and isn't used again (document 02, M-107)
+  pub no-twelve : (a : Answer) → numbersOf a .verdict ≡ 12 → ⊥
   -- the tabler: verdicts 1 to 4 change no buffer; 9, 10 and 11 leave both tables all zero
   pub tabler-keeps : (i : Input) (exec ext : List ℕ)
       → 1 ≤ numbersOf (answerFor i exec ext) .verdict

@@ -2,27 +2,55 @@
 -- Assumes nothing.
 use mathlib.Core.Bool.{true}
 use mathlib.Core.List.{List}
-use mathlib.Core.Path.{_≡_, refl, sym, ap, _∙_}
+use mathlib.Core.Path.{_≡_, sym, ap, ap₂, subst, _∙_}
 use Prim.Native.Nat.{ℕ, _+_, _*_, _^_, _≤_}
 use native.Mathlib.Omega.{arith}
 use borrow.Author.Tests.{eq-eqb}
-use lib.Dec.{eqb}
-use lib.ListN.{length, take}
+use lib.Dec.{T, eqb}
+use lib.ListN.{length, take, replicate, length-replicate}
 use lib.Seq.{length-take-le}
-use Rattle.answer.specs.Verdicts.{accepted}
-use Rattle.answer.specs.declared.Answer.{Answer}
-use Rattle.answer.proofs.Named.{accepted-is}
+use Rattle.answer.specs.declared.Answer.the-variants.{Accepted}
 use Rattle.label.specs.Label.{ranged}
 use Rattle.label.proofs.Range.{n-high}
 use Rattle.label.specs.declared.Recipe.{Recipe}
-use Rattle.maker.specs.Bytes.{sizesFit, programOf, memoryOf, programAfter, memoryAfter}
-use Rattle.tabler_spec.specs.Tabled.{tableOf, heldAfter, execAfter, extAfter}
+use Rattle.maker_spec.specs.Bytes.{sizesFit, programOf, memoryOf, programAfter, memoryAfter}
+use Rattle.maker_run.specs.Runs.{inputOf}
+use Rattle.maker_run.proofs.Runs.{recipe-run}
+use Rattle.rules.specs.Sizes.{execFits, extFits}
+use Rattle.judge_spec.specs.Judged.{judgeOf}
+use Rattle.run.specs.Runs.{withTables}
+use Rattle.tabler_spec.specs.Tabled.{tableOf, execAfter, extAfter}
 use Rattle.program_build.specs.Inner.{Spaces}
-use Rattle.program_build.specs.Recipes.{tabledOf, execTabled, extTabled}
+use Rattle.program_build.specs.Recipes.{height, execTabled, extTabled}
 
--- ACCEPTED leaves what was written
-pub held : (a : Answer) (old written : List ℕ) → accepted a ≡ true → heldAfter a old written ≡ written
-held a old written e = rw (accepted-is a e)
+-- M-107: the tabler accepts what the maker made, so both tables are the run's, and the judge accepts them
+module _ (r : Recipe) (inside : ranged r ≡ true) (e x : List ℕ) (exec-long : length e ≡ 32 * height) (ext-long : length x ≡ 120 * height) where
+  exec-fits : T (execFits (length e))
+  exec-fits = subst (λ (k : ℕ). T (execFits k)) (sym exec-long) tt
+
+  ext-fits : T (extFits (length x))
+  ext-fits = subst (λ (k : ℕ). T (extFits k)) (sym ext-long) tt
+
+  tabled : tableOf (programOf r) (memoryOf r) 0 0 (length e) (length x) ≡ Accepted
+  tabled = recipe-run r inside .tabled e x exec-fits ext-fits
+
+  exec-is : execAfter (programOf r) (memoryOf r) 0 0 e x ≡ execTabled r
+  unfolding execTabled
+  exec-is = rw (tabled, exec-long)
+
+  ext-is : extAfter (programOf r) (memoryOf r) 0 0 e x ≡ extTabled r
+  unfolding extTabled
+  ext-is = rw (tabled, exec-long, ext-long)
+
+  judged : judgeOf (withTables (inputOf r) (execTabled r) (extTabled r)) ≡ Accepted
+  judged =
+      ap₂ (λ (exec ext : List ℕ). judgeOf (withTables (inputOf r) exec ext)) (sym exec-is) (sym ext-is)
+      ∙ recipe-run r inside .judged e x exec-fits ext-fits
+
+pub own-accepted : (r : Recipe) → ranged r ≡ true → judgeOf (withTables (inputOf r) (execTabled r) (extTabled r)) ≡ Accepted
+own-accepted r inside =
+    judged r inside (replicate (32 * height) 0) (replicate (120 * height) 0) (length-replicate {A = ℕ} (32 * height) 0)
+    (length-replicate {A = ℕ} (120 * height) 0)
 
 module _ (r : Recipe) (p m e x : List ℕ) (room : Spaces r (length p) (length m) (length e) (length x)) where
   -- the four parts have room in 49,008 bytes
@@ -39,27 +67,20 @@ module _ (r : Recipe) (p m e x : List ℕ) (room : Spaces r (length p) (length m
   fitting : sizesFit r (length p) (length m) ≡ true
   fitting = rw (room .inside, program-size, memory-size)
 
-  -- what the maker leaves, and the tabler's answer and tables on it
-  pub built : {program memory exec ext : List ℕ} {a : Answer}
+  -- what the maker leaves, and the tabler on it
+  pub built : {program memory exec ext : List ℕ}
       → program ≡ programAfter r p m
       → memory ≡ memoryAfter r p m
-      → a ≡ tableOf program memory 0 0 (length e) (length x)
       → exec ≡ execAfter program memory 0 0 e x
       → ext ≡ extAfter program memory 0 0 e x
-      → (a ≡ tabledOf r)
-      × (program ≡ programOf r)
-      × (memory ≡ memoryOf r)
-      × (exec ≡ heldAfter (tabledOf r) e (execTabled r))
-      × (ext ≡ heldAfter (tabledOf r) x (extTabled r))
-  unfolding tabledOf execTabled extTabled
-  built i j f g k =
+      → (program ≡ programOf r) × (memory ≡ memoryOf r) × (exec ≡ execTabled r) × (ext ≡ extTabled r)
+  built i j g k =
       let first : programAfter r p m ≡ programOf r = rw fitting in
       let second : memoryAfter r p m ≡ memoryOf r = rw fitting in (
-        f ∙ rw (i ∙ first, j ∙ second, room .exec-long, room .ext-long),
         i ∙ first,
         j ∙ second,
-        g ∙ rw (i ∙ first, j ∙ second, room .exec-long, room .ext-long),
-        k ∙ rw (i ∙ first, j ∙ second, room .exec-long, room .ext-long),
+        g ∙ rw (i ∙ first, j ∙ second) (exec-is r (room .inside) e x (room .exec-long) (room .ext-long)),
+        k ∙ rw (i ∙ first, j ∙ second) (ext-is r (room .inside) e x (room .exec-long) (room .ext-long)),
       )
 
 -- the part of the longest program that a recipe's takes

@@ -1,7 +1,6 @@
 // A recipe made and tabled, as both programs do: document 01, "Draws, recipe, label".
 mod space;
 
-use answer::Answer;
 use label::Recipe;
 use maker::make;
 pub use space::exec_space;
@@ -11,28 +10,20 @@ pub use space::program_space;
 use tabler::table;
 ghost use mathlib.Core.Path.{_≡_};
 ghost use lib.ListN.{length};
-ghost use Rattle.maker.specs.Bytes.{programOf, memoryOf};
-ghost use Rattle.tabler_spec.specs.Tabled.{heldAfter};
+ghost use Rattle.maker_spec.specs.Bytes.{programOf, memoryOf};
 ghost use Rattle.program_build.specs.Inner.{Spaces};
-ghost use Rattle.program_build.specs.Recipes.{tabledOf, execTabled, extTabled};
+ghost use Rattle.program_build.specs.Recipes.{execTabled, extTabled};
 
-// The tabler's answer on what the maker made, from pc 0 and fp 0.
-pub fn build(
-    recipe: Recipe,
-    program: &mut [u8],
-    memory: &mut [u8],
-    exec: &mut [u8],
-    ext: &mut [u8],
-) -> Answer
+// From pc 0 and fp 0. Maker and tabler accept every recipe that is handed on, so neither's answer is asked for.
+pub fn build(recipe: Recipe, program: &mut [u8], memory: &mut [u8], exec: &mut [u8], ext: &mut [u8])
     requires { ⌜ Spaces recipe (length (now program)) (length (now memory)) (length (now exec)) (length (now ext)) ⌝ }
-    ensures { λ r. ⌜
-        (r ≡ tabledOf recipe)
-        × (now (program .exit) ≡ programOf recipe)
+    ensures { λ _. ⌜
+        (now (program .exit) ≡ programOf recipe)
         × (now (memory .exit) ≡ memoryOf recipe)
-        × (now (exec .exit) ≡ heldAfter (tabledOf recipe) (now (exec .entry)) (execTabled recipe))
-        × (now (ext .exit) ≡ heldAfter (tabledOf recipe) (now (ext .entry)) (extTabled recipe))
+        × (now (exec .exit) ≡ execTabled recipe)
+        × (now (ext .exit) ≡ extTabled recipe)
         ⌝ }
 {
     make(recipe, program, memory);
-    table(program, memory, 0, 0, exec, ext)
+    table(program, memory, 0, 0, exec, ext);
 }

@@ -7,13 +7,13 @@ use lib.Dec.{eqb}
 use Rattle.answer.specs.Verdicts.{numbersOf, accepted}
 use Rattle.answer.specs.declared.Numbers.{Numbers}
 use Rattle.answer.specs.declared.Answer.{Answer}
-use Rattle.answer.specs.declared.Answer.the-variants.{Accepted, Size, Itself}
+use Rattle.answer.specs.declared.Answer.the-variants.{Size}
 use Rattle.label.specs.Label.{labelOf}
 use Rattle.label.specs.declared.Reading.{Reading}
 use Rattle.label.specs.declared.Recipe.{Recipe}
-use Rattle.maker.specs.Bytes.{programOf, memoryOf}
+use Rattle.maker_spec.specs.Bytes.{programOf, memoryOf}
 use Rattle.judge_spec.specs.Judged.{judgeOf}
-use Rattle.program_build.specs.Recipes.{tabledOf, execTabled, extTabled}
+use Rattle.program_build.specs.Recipes.{execTabled, extTabled}
 use Rattle.lines.specs.Line.{lineOf}
 
 -- verdict=, part=, place=, rule=, expected= and found=
@@ -51,13 +51,9 @@ unfoldable pub judgedOf : Recipe → Answer
 judgedOf r =
     judgeOf (record { program = programOf r; memory = memoryOf r; exec = execTabled r; ext = extTabled r; pc = 0; fp = 0 })
 
--- SELF where tabler or judge refuses them
-unfoldable pub ownOf : Recipe → Answer
-ownOf r = cond (accepted (tabledOf r)) (cond (accepted (judgedOf r)) Accepted Itself) Itself
-
 -- the program takes m = 10 only; another is SIZE part 2
 unfoldable pub replayOf : Recipe → Answer
-replayOf r = cond (eqb (r .m) 10) (ownOf r) (Size 2 0)
+replayOf r = cond (eqb (r .m) 10) (judgedOf r) (Size 2 0)
 
 -- a bad label's six lines alone; else the label and then the six lines
 unfoldable pub replayOutput : Reading → List ℕ

@@ -1,6 +1,5 @@
 // A recipe's own tables, made and judged.
 use answer::Answer;
-use answer::accepted;
 use judge::judge;
 use label::Recipe;
 use program_build::build;
@@ -13,9 +12,9 @@ ghost use mathlib.Core.Path.{_≡_};
 ghost use lib.ListN.{length};
 ghost use Rattle.label.specs.Label.{ranged};
 ghost use Rattle.program_build.specs.Inner.{Spaces};
-ghost use Rattle.replay.specs.Replay.{ownOf, replayOf};
+ghost use Rattle.replay.specs.Replay.{judgedOf, replayOf};
 
-// ACCEPTED, or SELF where tabler or judge refuses the tables.
+// The judge's answer to the recipe's own tables.
 fn own(
     recipe: Recipe,
     program: &mut [u8],
@@ -24,21 +23,16 @@ fn own(
     ext: &mut [u8],
 ) -> Answer
     requires { ⌜ Spaces recipe (length (now program)) (length (now memory)) (length (now exec)) (length (now ext)) ⌝ }
-    ensures { λ r. ⌜ r ≡ ownOf recipe ⌝ }
+    ensures { λ r. ⌜ r ≡ judgedOf recipe ⌝ }
 {
-    if !accepted(build(recipe, program, memory, exec, ext)) {
-        return Answer::Itself;
-    }
-    if accepted(judge(program, memory, 0, 0, exec, ext)) {
-        return Answer::Accepted;
-    }
-    Answer::Itself
+    build(recipe, program, memory, exec, ext);
+    judge(program, memory, 0, 0, exec, ext)
 }
 
 // The same in buffers of its own.
 fn own_in_space(recipe: Recipe) -> Answer
     requires { ⌜ (ranged recipe ≡ true) × (recipe .m ≡ 10) ⌝ }
-    ensures { λ r. ⌜ r ≡ ownOf recipe ⌝ }
+    ensures { λ r. ⌜ r ≡ judgedOf recipe ⌝ }
 {
     let mut program = program_space();
     let mut memory = memory_space();

@@ -1,5 +1,4 @@
 // A recipe's parts, made and tabled.
-use answer::accepted;
 use label::Recipe;
 use lines::put;
 use program_build::build;
@@ -15,7 +14,7 @@ ghost use lib.ListN.{length};
 ghost use Rattle.label.specs.Label.{ranged};
 ghost use Rattle.program_build.specs.Output.{Fills};
 ghost use Rattle.program_build.specs.Inner.{Spaces};
-ghost use Rattle.table.specs.Table.{tablesWritten};
+ghost use Rattle.program_build.specs.Recipes.{fourParts};
 
 // The four parts in order, at the front of the buffer.
 fn put_parts(program: &[u8], memory: &[u8], exec: &[u8], ext: &[u8], out: &mut [u8]) -> usize
@@ -28,7 +27,7 @@ fn put_parts(program: &[u8], memory: &[u8], exec: &[u8], ext: &[u8], out: &mut [
     put(ext, ext_at, out)
 }
 
-// Nothing where the tabler refuses.
+// What was built, at the front of the buffer.
 fn tables(
     recipe: Recipe,
     program: &mut [u8],
@@ -38,18 +37,16 @@ fn tables(
     out: &mut [u8],
 ) -> usize
     requires { ⌜ Spaces recipe (length (now program)) (length (now memory)) (length (now exec)) (length (now ext)) × (49008 ≤ length (now out)) ⌝ }
-    ensures { λ r. ⌜ Fills (tablesWritten recipe) (now (out .entry)) (now (out .exit)) r ⌝ }
+    ensures { λ r. ⌜ Fills (fourParts recipe) (now (out .entry)) (now (out .exit)) r ⌝ }
 {
-    if !accepted(build(recipe, program, memory, exec, ext)) {
-        return 0;
-    }
+    build(recipe, program, memory, exec, ext);
     put_parts(program, memory, exec, ext, out)
 }
 
 // The same in buffers of its own.
 pub(crate) fn tables_in_space(recipe: Recipe, out: &mut [u8]) -> usize
     requires { ⌜ (ranged recipe ≡ true) × (recipe .m ≡ 10) × (49008 ≤ length (now out)) ⌝ }
-    ensures { λ r. ⌜ Fills (tablesWritten recipe) (now (out .entry)) (now (out .exit)) r ⌝ }
+    ensures { λ r. ⌜ Fills (fourParts recipe) (now (out .entry)) (now (out .exit)) r ⌝ }
 {
     let mut program = program_space();
     let mut memory = memory_space();

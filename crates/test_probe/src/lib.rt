@@ -6,7 +6,7 @@ ghost use mathlib.Core.Path.{_≡_};
 ghost use lib.ListN.{length};
 ghost use Rattle.label.specs.Reader.{recipeOf};
 ghost use Rattle.label.specs.Writing.{written, buffered};
-ghost use Rattle.maker.specs.Bytes.{makeOf, programAfter, memoryAfter};
+ghost use Rattle.maker_spec.specs.Bytes.{makeOf, programAfter, memoryAfter};
 ghost use Rattle.reply.specs.Reply.{returned, replied};
 ghost use Rattle.tabler_spec.specs.Tabled.{tableOf, execAfter, extAfter};
 

@@ -9,7 +9,7 @@ returns c =
     let s = c .before .before .before .before .before .before .before .before .before .before .before .before .before .before .before .before .before .before .before .before in
     let m = c .before .before .before .before .before .before .before .before .before .before .before .before .before .make .ensures in
     let t = c .before .before .before .before .table .ensures in
-    built (s .args .recipe) (s .args .program .now) (s .args .memory .now) (s .args .exec .now) (s .args .ext .now) (s .pre) (m .1) (m .2) (t .0) (t .1 .0) (t .1 .1)
+    built (s .args .recipe) (s .args .program .now) (s .args .memory .now) (s .args .exec .now) (s .args .ext .now) (s .pre) (m .1) (m .2) (t .1 .0) (t .1 .1)
 
 pub build-spec : {M : Type 1} → statement M
 build-spec =

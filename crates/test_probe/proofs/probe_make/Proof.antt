@@ -2,7 +2,7 @@
 use mathlib.Core.Path.{_∙_, ap}
 use borrow.Author.Needs.{needs}
 use Rattle.label.specs.declared.Recipe.{Recipe}
-use Rattle.maker.specs.Bytes.{programAfter, memoryAfter}
+use Rattle.maker_spec.specs.Bytes.{programAfter, memoryAfter}
 use Rattle.test_probe.proofs.probe_make.Statement.{statement}
 use Rattle.test_probe.proofs.probe_make.Tie as tie
 
