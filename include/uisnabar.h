@@ -29,7 +29,7 @@
 #include <stdint.h>
 
 /* The version of this header and of the library it was made for. */
-#define UISNABAR_VERSION "3.2.0"
+#define UISNABAR_VERSION "4.0.0"
 /* The length of `answer`, and of `recipe`. Later versions may ask for more: use these names, and no number. */
 #define UISNABAR_ANSWER_BYTES 24
 #define UISNABAR_RECIPE_BYTES 20
@@ -50,8 +50,8 @@
 extern "C" {
 #endif
 
-/* Parts are 1 program, 2 memory, 3 execution table, 4 extension table. 9 to 12 are not returned here: the tabler gives
- * 9 to 11, and the replay program prints 12. */
+/* Parts are 1 program, 2 memory, 3 execution table, 4 extension table. 9 to 11 are the tabler's, and no function here
+ * returns them. 12 is no verdict: it was the replay program's SELF before 4.0.0, and is not used again. */
 enum uisnabar_verdict {
     UISNABAR_ACCEPTED = 0,
     UISNABAR_SIZE = 1,        /* part: the lowest of bad length; part 5, place: bytes that `text` would need */
@@ -68,7 +68,6 @@ enum uisnabar_verdict {
     UISNABAR_STUCK = 9,
     UISNABAR_ROOM = 10,
     UISNABAR_OPEN = 11,
-    UISNABAR_SELF = 12,
     UISNABAR_ANSWER = 13,     /* a buffer of fixed length is of another; nothing is written */
     UISNABAR_GRID = 14,       /* the counters' total would pass 2^63 - 1 */
     UISNABAR_EDITION = 15,    /* place: the first instruction of draft 0.5.0 that is not translatable */
@@ -77,7 +76,7 @@ enum uisnabar_verdict {
     UISNABAR_HOST = 18        /* a host's number is at or above UISNABAR_HOSTS */
 };
 
-/* A verdict's name. */
+/* A verdict's name, "unknown" for a number that is none. */
 static inline const char *uisnabar_name(uint32_t verdict)
 {
     switch (verdict) {
@@ -93,7 +92,6 @@ static inline const char *uisnabar_name(uint32_t verdict)
     case UISNABAR_STUCK: return "STUCK";
     case UISNABAR_ROOM: return "ROOM";
     case UISNABAR_OPEN: return "OPEN";
-    case UISNABAR_SELF: return "SELF";
     case UISNABAR_ANSWER: return "ANSWER";
     case UISNABAR_GRID: return "GRID";
     case UISNABAR_EDITION: return "EDITION";

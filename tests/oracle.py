@@ -18,7 +18,7 @@ from oracle_words import (
     rows_of, six, words_of)
 
 NAMES = ("ACCEPTED", "SIZE", "WORD", "INSTRUCTION", "START", "EXEC", "EXTENSION", "BUS",
-         "LABEL", "STUCK", "ROOM", "OPEN", "SELF", "ANSWER", "GRID", "EDITION", "LISTING", "SHORT", "HOST")
+         "LABEL", "STUCK", "ROOM", "OPEN", None, "ANSWER", "GRID", "EDITION", "LISTING", "SHORT", "HOST")
 VERSIONS, BOUND = (1, 2), 4261412866  # of a recipe; version 2 throws away what it draws for a cell from here on
 
 # ---- draws, labels, maker ----

@@ -57,7 +57,7 @@ const OLD_INSTRUCTION: usize = 56;
 const INSTRUCTION: usize = 48;
 const MOST_INSTRUCTIONS: usize = 1 << 20;
 
-/// The verdicts by number.
+/// The verdicts by number; 12 is none, and is not used again.
 pub const NAMES: [&str; 19] = [
     "ACCEPTED",
     "SIZE",
@@ -71,7 +71,7 @@ pub const NAMES: [&str; 19] = [
     "STUCK",
     "ROOM",
     "OPEN",
-    "SELF",
+    "unknown",
     "ANSWER",
     "GRID",
     "EDITION",

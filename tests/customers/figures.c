@@ -6,7 +6,7 @@
 
 #include "uisnabar.h"
 
-enum { MOST = 1200, UNTOUCHED = 0xa5 };
+enum { MOST = 1200, UNTOUCHED = 0xa5, NUMBERS = 1000 /* verdicts are below it */ };
 
 static char text[] = "v=1\nseed=0123456789abcdef\nm=29\nn=124\n";
 enum { VERSION = 2 }; /* the byte of it that is its version */
@@ -178,8 +178,9 @@ int main(void)
     labels();
     longest();
     translations();
-    for (uint32_t verdict = 0; strcmp(uisnabar_name(verdict), "unknown") != 0; verdict++)
-        printf("verdict %u %s\n", (unsigned)verdict, uisnabar_name(verdict));
+    for (uint32_t verdict = 0; verdict < NUMBERS; verdict++)
+        if (strcmp(uisnabar_name(verdict), "unknown") != 0)
+            printf("verdict %u %s\n", (unsigned)verdict, uisnabar_name(verdict));
     printf("answer %d\nrecipe %d\ngrid %d\nwritten %d\nreport %d\n", UISNABAR_ANSWER_BYTES, UISNABAR_RECIPE_BYTES, UISNABAR_GRID_BYTES,
            UISNABAR_WRITTEN_BYTES, UISNABAR_REPORT_BYTES);
     printf("line %d\nnext %d\nhosts %d\n", UISNABAR_LINE_BYTES, UISNABAR_NEXT_BYTES, UISNABAR_HOSTS);

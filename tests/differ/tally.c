@@ -11,7 +11,7 @@ const char *const function_names[FUNCTIONS] = {
 
 static const char *const verdict_names[VERDICTS] = {
     "ACCEPTED", "SIZE", "WORD", "INSTRUCTION", "START", "EXEC", "EXTENSION",
-    "BUS", "LABEL", "STUCK", "ROOM", "OPEN", "SELF", "ANSWER", "GRID",
+    "BUS", "LABEL", "STUCK", "ROOM", "OPEN", "no verdict", "ANSWER", "GRID",
     "EDITION", "LISTING", "SHORT", "HOST"
 };
 
@@ -38,8 +38,8 @@ static const char *const case_names[GRID_CASES] = {
     [REPORT_ANSWER_LENGTH] = "report's answer length",
 };
 
-/* Which verdicts each function must reach.  SELF is the replay program's; the
- * writer returns a length, so its wrong answer buffers are not counted on. */
+/* Which verdicts each function must reach.  The writer returns a length, so
+ * its wrong answer buffers are not counted on. */
 static const bool expected[FUNCTIONS][VERDICTS] = {
     [JUDGE] = { [ACCEPTED] = true, [SIZE] = true, [WORD] = true,
                 [INSTRUCTION] = true, [START] = true, [EXEC] = true,
