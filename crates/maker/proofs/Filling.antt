@@ -12,7 +12,7 @@ use Rattle.word.specs.Bytes.{bytesOf}
 use Rattle.form.specs.declared.Instruction.{Instruction}
 use Rattle.form.specs.Instruction.{instructionWords}
 use Rattle.maker_draws.specs.Drawn.{Draws}
-use Rattle.maker_spec.specs.Made.{flat, kindPicked, made, jumpTo, instructionMade, slotCells, cellOf}
+use Rattle.maker_spec.specs.Made.{flat, kindPicked, made, halt, instructionMade, slotCells, cellOf}
 use Rattle.maker.specs.Inner.{cellIn, eight}
 use Rattle.maker_spec.specs.Bytes.{wordBytes, instructionsOf, cellsOf}
 use Rattle.word.proofs.Concatenated.{lent-length, parts-length, parts-append, parts-same, parts-one}
@@ -46,7 +46,7 @@ module _ (d : Draws) (n : ℕ) where
       same : made flat 0 i (kindPicked kind c) a c ≡ instructionMade flat d n i
       same = rw (lt-ltb i n h, ek, ea, ec, frame-flat d i)
 
-  last-instruction : jumpTo 1 n ≡ instructionMade flat d n n
+  last-instruction : halt n ≡ instructionMade flat d n n
   last-instruction = rw (le-ltb n n (omega arith))
 
   -- the first 32 cells
@@ -124,7 +124,7 @@ module _ (d : Draws) (n : ℕ) where
 
   -- the last instruction, and the bytes past the slots, end the buffers
   module _ (t s row : List ℕ) where
-    pub program-ended : s ≡ instructionsOf flat d n n ++ drop (48 * n) t → length t ≡ 48 * (n + 1) → row ≡ wordBytes (instructionWords (jumpTo 1 n))
+    pub program-ended : s ≡ instructionsOf flat d n n ++ drop (48 * n) t → length t ≡ 48 * (n + 1) → row ≡ wordBytes (instructionWords (halt n))
         → take (48 * n) s ++ (row ++ drop (length s - 48 * n) (drop (48 * n) s)) ≡ instructionsOf flat d n (n + 1)
     program-ended was sized is =
         let kept = program-kept t n was (omega arith) in

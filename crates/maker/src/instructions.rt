@@ -6,7 +6,7 @@ ghost use mathlib.Core.Path.{_≡_};
 ghost use Prim.Native.Nat.{_≤_, _<_};
 ghost use Rattle.form.specs.Data.{dataWord};
 ghost use Rattle.form.specs.Instruction.{instructionWords};
-ghost use Rattle.maker_spec.specs.Made.{flat, opPicked, bePicked, countPicked, kindPicked, made, jumpTo};
+ghost use Rattle.maker_spec.specs.Made.{flat, opPicked, bePicked, countPicked, kindPicked, made, halt};
 
 fn data_of(c: u32) -> u32
     ensures { λ r. ⌜ r ≡ dataWord (opPicked c) (bePicked c) (countPicked c) ⌝ }
@@ -30,7 +30,7 @@ pub(crate) fn made_words(i: u32, kind: u32, a: u32, c: u32) -> [u32; 12]
 
 // Instruction n jumps to itself.
 pub(crate) fn halt_words(n: u32) -> [u32; 12]
-    ensures { λ r. ⌜ r ≡ instructionWords (jumpTo 1 n) ⌝ }
+    ensures { λ r. ⌜ r ≡ instructionWords (halt n) ⌝ }
 {
     [1, n, 0, 1, 1, 0, 1, 0, 0, 1, 0, 0]
 }

@@ -1,12 +1,12 @@
 -- Frames: flat programs have frame 0 throughout, and every frame is below 32.
 -- Assumes nothing.
 use mathlib.Core.Path.{_≡_, refl, _∙_}
-use Prim.Native.Nat.{ℕ, zero, suc, _%_, _<_}
-use lib.Dec.{eqb, lit<}
+use Prim.Native.Nat.{ℕ, zero, suc, _<_}
+use lib.Dec.{lit<}
 use Rattle.word.proofs.Tests.{by-test}
 use Rattle.form.specs.declared.Kind.{Kind}
 use Rattle.maker_draws.specs.Drawn.{Draws}
-use Rattle.maker_spec.specs.Made.{Drawable, Profile, flat, frames, jumpFrame, frameAfter, kindAt, frameAt}
+use Rattle.maker_spec.specs.Made.{Drawable, Profile, flat, frames, jumpTaken, jumpFrame, frameAfter, kindDrawn, frameAt}
 use Rattle.maker_law.proofs.Making.{by-kind}
 
 pub frame-flat : (d : Draws) (i : ℕ) → frameAt flat d i ≡ 0
@@ -18,7 +18,7 @@ frame-flat d (suc i) =
 
 jump-below : (profile : Profile) (a c fp : ℕ) → a < 32 → fp < 32 → jumpFrame profile a c fp < 32
 jump-below flat a c fp ha h = h
-jump-below frames a c fp ha h = by-test (λ (x : ℕ). x < 32) (eqb (c % 2) 1) (λ _. ha) (λ _. h)
+jump-below frames a c fp ha h = by-test (λ (x : ℕ). x < 32) (jumpTaken c) (λ _. ha) (λ _. h)
 
 pub frame-below : (profile : Profile) (d : Draws) → Drawable d → (i : ℕ) → frameAt profile d i < 32
 unfolding frameAt

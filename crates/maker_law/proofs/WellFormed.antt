@@ -31,7 +31,7 @@ use Rattle.maker_spec.specs.Made.{
   leftPicked,
   rightPicked,
   kindPicked,
-  kindAt,
+  kindDrawn,
   jumpMade,
   made,
   jumpCells,
@@ -66,8 +66,8 @@ jump-words flat fp i c h = omega arith
 jump-words frames fp i c h = omega (arith, difference-word (slot i) fp)
 
 jump-cells : (profile : Profile) (a : ℕ) → a < 32 → AllBelow p (jumpCells profile a)
-jump-cells flat a h = lit< tt
-jump-cells frames a h = (omega arith, lit< tt)
+jump-cells flat a h = omega arith
+jump-cells frames a h = omega arith
 
 module _ (profile : Profile) (d : Draws) (is : Drawable d) (n : ℕ) where
   pub program-words : n ≤ 124 → (i : ℕ) → i ≤ n → (k : ℕ) → IsWord (getD (instructionWords (instructionMade profile d n i)) k 0)

@@ -122,8 +122,8 @@ module _ (profile : Profile) (d : Draws) (is : Drawable d) (n m : ℕ) (few : n 
     judged : (let i = inputMade profile d n m in JudgeAccepts i (execLeft i exec ext) (extLeft i exec ext))
     judged = own-bytes (inputMade profile d n m) exec ext tabled
 
-  pub made : MadeRun (inputMade profile d n m) n (stateMade profile d n)
-  made =
+  pub made-run : MadeRun (inputMade profile d n m) n (stateMade profile d n)
+  made-run =
       record {
         permitted = permitted;
         begins = run.begins profile d is n few (machine (inputMade profile d n m)) holds;

@@ -14,7 +14,7 @@ use Rattle.machine.specs.Run.{StayingRun}
 use Rattle.tables.specs.Machine.{formIn}
 use Rattle.tables.specs.Groups.{lengthAt, filled}
 use Rattle.maker_draws.specs.Drawn.{Draws}
-use Rattle.maker_spec.specs.Made.{Drawable, Profile, slotSize, slot, kindAt, jumpTo, made, frameAt, instructionMade, slotCell, cellOf}
+use Rattle.maker_spec.specs.Made.{Drawable, Profile, slotSize, slot, kindDrawn, halt, made, frameAt, instructionMade, slotCell, cellOf}
 use Rattle.maker_law.proofs.Cells.{drawn-cell, slot-cell}
 use Rattle.maker_law.proofs.Frames.{frame-below}
 use Rattle.maker_run.specs.Runs.{stateMade}
@@ -34,10 +34,10 @@ module _ (profile : Profile) (d : Draws) (is : Drawable d) (n : ℕ) (most : n �
   slots : (i : ℕ) → i < n → (j : ℕ) → j < slotSize → m .cell (slot i + j) ≡ slotCell profile d i j
   slots i l j b = h .cells (slot i + j) (omega arith) ∙ slot-cell profile d n i j l b
 
-  form-at : (i : ℕ) → i < n → m .form i ≡ formIn (decodeOf (made profile (frameAt profile d i) i (kindAt d i) (d .a i) (d .c i)))
+  form-at : (i : ℕ) → i < n → m .form i ≡ formIn (decodeOf (made profile (frameAt profile d i) i (kindDrawn d i) (d .a i) (d .c i)))
   form-at i l = h .forms i (omega arith) ∙ rw (lt-ltb i n l)
 
-  form-last : m .form n ≡ formIn (decodeOf (jumpTo 1 n))
+  form-last : m .form n ≡ formIn (decodeOf (halt n))
   form-last = h .forms n (omega arith) ∙ rw (le-ltb n n (omega arith))
 
   instruction-goes : (i : ℕ) → i < n → step m (record { pc = i; fp = frameAt profile d i }) ≡ goes (record { pc = suc i; fp = frameAt profile d (suc i) })

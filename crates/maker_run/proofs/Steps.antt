@@ -34,7 +34,7 @@ use Rattle.maker_spec.specs.Made.{
   leftPicked,
   rightPicked,
   kindPicked,
-  jumpTo,
+  halt,
   jumpMade,
   made,
   jumpFrame,
@@ -125,6 +125,7 @@ module _ (m : Machine) (cell : ℕ → ℕ) (room : 1024 ≤ m .size) (drawn : (
     extension-goes : Goes (Extension (opPicked c) (bePicked c) (countPicked c))
     unfolding step decodeOf
     extension-goes h =
+        let last : 4 < slotSize = lit< tt in
         rw (
           lt-ltb i (m .count) inside,
           h .0,
@@ -134,7 +135,7 @@ module _ (m : Machine) (cell : ℕ → ℕ) (room : 1024 ≤ m .size) (drawn : (
           equal 1 (h .1 1 (lit< tt)),
           equal 2 (h .1 2 (lit< tt)),
           equal 3 (h .1 3 (lit< tt)),
-          equal 4 (h .1 4 (lit< tt)),
+          equal 4 (h .1 4 last),
         )
 
   -- a jump to the next instruction, taken or not
@@ -160,7 +161,7 @@ module _ (m : Machine) (cell : ℕ → ℕ) (room : 1024 ≤ m .size) (drawn : (
       by-kind (Goes profile) kind c (add-goes profile) (mul-goes profile) (deref-goes profile) (jump-goes profile) (extension-goes profile)
 
 -- instruction n stays, in any frame
-pub halt-stays : (m : Machine) (n fp : ℕ) → n < m .count → IsWord fp → m .form n ≡ formIn (decodeOf (jumpTo 1 n))
+pub halt-stays : (m : Machine) (n fp : ℕ) → n < m .count → IsWord fp → m .form n ≡ formIn (decodeOf (halt n))
     → step m (record { pc = n; fp = fp }) ≡ goes (record { pc = n; fp = fp })
 unfolding step decodeOf
 halt-stays m n fp inside w form = rw (lt-ltb n (m .count) inside, form, sum-zero fp w)
@@ -178,6 +179,6 @@ made-fills profile fp i kind a c =
     (omega arith) (omega arith) (omega arith) (omega (arith, jump-fills profile fp i c))
     (rw (written (opPicked c) (bePicked c) (countPicked c) (omega arith) (omega arith)) (omega arith))
 
-pub halt-fills : (n : ℕ) → lengthOf (formIn (decodeOf (jumpTo 1 n)) .kind) ≡ 0
+pub halt-fills : (n : ℕ) → lengthOf (formIn (decodeOf (halt n)) .kind) ≡ 0
 unfolding decodeOf
 halt-fills n = refl

@@ -1,7 +1,7 @@
 -- Document 02, M-107: the run of what is made, from pc 0, fp 0. `Drawable` draws are any 32 words, any kinds, and any a
--- and c below 32; the profiles are M-111's, and every recipe is flat. `Permitted`, `LegalRun`, `Spare` and `JudgeAccepts`
--- are demand 3's words (run); `answerFor`, `execLeft` and `extLeft` are what the tabler promises for two buffers: its
--- answer, and the very bytes that it leaves.
+-- and c below 32; the profiles are M-111's, and every recipe is flat. `Permitted`, `LegalRun`, `Spare` and
+-- `JudgeAccepts` are demand 3's words (run); `answerFor`, `execLeft` and `extLeft` are what the tabler promises for two
+-- buffers: its answer, and the very bytes that it leaves.
 -- Declared in src/: Answer (answer); Recipe (label).
 use mathlib.Core.Path.{_≡_}
 use mathlib.Core.Bool.{true}
@@ -49,14 +49,14 @@ pub record MadeRun (i : Input) (n : ℕ) (state : ℕ → State) : Type 0 where
   pub judged : (exec ext : List ℕ) → T (execFits (length exec)) → T (extFits (length ext)) → JudgeAccepts i (execLeft i exec ext) (extLeft i exec ext)
 
 -- a recipe's program and memory, from pc 0, fp 0, and the states of its run: at instruction r, and from n on there
-abbrev pub inputOf : Recipe → Input
-inputOf r = record { program = programOf r; memory = memoryOf r; pc = 0; fp = 0 }
+abbrev pub recipeInput : Recipe → Input
+recipeInput r = record { program = programOf r; memory = memoryOf r; pc = 0; fp = 0 }
 
-abbrev pub stateOf : Recipe → ℕ → State
-stateOf r k = record { pc = min k (r .n); fp = 0 }
+abbrev pub recipeState : Recipe → ℕ → State
+recipeState r k = record { pc = min k (r .n); fp = 0 }
 
 -- the law, of whatever is drawn and in either profile; and every recipe is an instance
 pub record MakerRuns : Type 0 where
-  pub made : (profile : Profile) (d : Draws) → Drawable d → (n m : ℕ) → n ≤ 124 → 10 ≤ m → m ≤ 29
+  pub of-draws : (profile : Profile) (d : Draws) → Drawable d → (n m : ℕ) → n ≤ 124 → 10 ≤ m → m ≤ 29
       → MadeRun (inputMade profile d n m) n (stateMade profile d n)
-  pub recipes : (r : Recipe) → ranged r ≡ true → MadeRun (inputOf r) (r .n) (stateOf r)
+  pub of-recipes : (r : Recipe) → ranged r ≡ true → MadeRun (recipeInput r) (r .n) (recipeState r)

@@ -1,2 +1,2 @@
-// M-107, document 02: the run of whatever is made is legal and stays, and tabler and judge accept it. Theorems alone: what
-// they say in specs/, their proofs in proofs/.
+// M-107, document 02: the run of whatever is made is legal and stays, and tabler and judge accept it. The theorem in
+// specs/, its proof in proofs/.

@@ -22,7 +22,7 @@ pub record Drawable (d : Draws) : Type 0 where
   pub a : (i : ℕ) → d .a i < 32
   pub c : (i : ℕ) → d .c i < 32
 
--- flat: fp is 0 throughout; frames: a taken jump changes it
+-- flat: fp is 0 throughout. frames: a taken jump changes it
 pub data Profile : Type 0 where
   flat : Profile
   frames : Profile
@@ -65,7 +65,11 @@ abbrev pub jumpTo : ℕ → ℕ → Instruction
 jumpTo condition dest =
     record { jump = 1; fa = 1; a = condition; fb = 1; b = dest; fpc = 1; c = 0; fc = 0; fpab = 0; mul = 0; aux = 0; «data» = 0 }
 
--- the same with its new frame from the cell at an offset
+-- the last instruction, n, jumps to itself: condition 1, dest n
+abbrev pub halt : ℕ → Instruction
+halt n = jumpTo 1 n
+
+-- a jump with its new frame from the cell at an offset
 abbrev pub jumpInto : ℕ → ℕ → ℕ → Instruction
 jumpInto condition dest offset =
     record { jump = 1; fa = 1; a = condition; fb = 1; b = dest; c = offset; fc = 0; fpc = 0; fpab = 0; mul = 0; aux = 0; «data» = 0 }
@@ -89,10 +93,14 @@ made profile fp i Jump a c = jumpMade profile fp i c
 made profile fp i (Extension op be n) a c =
     record { «data» = dataWord op be n; fa = 1; a = leftPicked a; fb = 1; b = rightPicked a; fc = 1; c = slot i; fpc = 0; fpab = 0; mul = 0; jump = 0; aux = 0 }
 
--- the frame after an instruction: in frames a taken jump's is a
+-- a jump is taken where its condition is 1
+abbrev pub jumpTaken : ℕ → Bool
+jumpTaken c = eqb (c % 2) 1
+
+-- the frame after an instruction: in frames a taken jump's is a, which cell T holds
 abbrev pub jumpFrame : Profile → ℕ → ℕ → ℕ → ℕ
 jumpFrame flat a c fp = fp
-jumpFrame frames a c fp = cond (eqb (c % 2) 1) a fp
+jumpFrame frames a c fp = cond (jumpTaken c) a fp
 
 abbrev pub frameAfter : Profile → Kind → ℕ → ℕ → ℕ → ℕ
 frameAfter profile Add a c fp = fp
@@ -101,7 +109,8 @@ frameAfter profile Deref a c fp = fp
 frameAfter profile Jump a c fp = jumpFrame profile a c fp
 frameAfter profile (Extension op be n) a c fp = fp
 
--- the cells from T on: ADD and MUL give cell T, DEREF cells T and T + 1, JUMP in frames cell T, an extension five
+-- the cells from T on: ADD and MUL give cell T, DEREF cells T and T + 1, JUMP in frames cell T, taken or not, and an
+-- extension five
 abbrev pub jumpCells : Profile → ℕ → List ℕ
 jumpCells flat a = []
 jumpCells frames a = a ∷ []
@@ -114,22 +123,22 @@ slotCells profile cell Jump a c = jumpCells profile a
 slotCells profile cell (Extension op be n) a c = result cell op be (leftPicked a) (rightPicked a) 0 n
 
 -- the kind of instruction i
-abbrev pub kindAt : Draws → ℕ → Kind
-kindAt d i = kindPicked (d .kind i) (d .c i)
+abbrev pub kindDrawn : Draws → ℕ → Kind
+kindDrawn d i = kindPicked (d .kind i) (d .c i)
 
 module _ (profile : Profile) (d : Draws) where
   -- the frame before instruction i
   unfoldable pub frameAt : ℕ → ℕ
   frameAt zero = 0
-  frameAt (suc i) = frameAfter profile (kindAt d i) (d .a i) (d .c i) (frameAt i)
+  frameAt (suc i) = frameAfter profile (kindDrawn d i) (d .a i) (d .c i) (frameAt i)
 
-  -- instruction n jumps to itself: condition 1, dest n
+  -- n that are drawn, and the halt
   abbrev pub instructionMade : ℕ → ℕ → Instruction
-  instructionMade n i = cond (ltb i n) (made profile (frameAt i) i (kindAt d i) (d .a i) (d .c i)) (jumpTo 1 n)
+  instructionMade n i = cond (ltb i n) (made profile (frameAt i) i (kindDrawn d i) (d .a i) (d .c i)) (halt n)
 
   -- cell j of slot i
   abbrev pub slotCell : ℕ → ℕ → ℕ
-  slotCell i j = getD (slotCells profile (d .cell) (kindAt d i) (d .a i) (d .c i)) j 0
+  slotCell i j = getD (slotCells profile (d .cell) (kindDrawn d i) (d .a i) (d .c i)) j 0
 
   -- the drawn cells, the slots, and 0 elsewhere
   unfoldable pub cellOf : ℕ → ℕ → ℕ

@@ -14,7 +14,7 @@ use Rattle.label.specs.Label.{ranged}
 use Rattle.label.proofs.Range.{n-high}
 use Rattle.label.specs.declared.Recipe.{Recipe}
 use Rattle.maker_spec.specs.Bytes.{sizesFit, programOf, memoryOf, programAfter, memoryAfter}
-use Rattle.maker_run.specs.Runs.{inputOf}
+use Rattle.maker_run.specs.Runs.{recipeInput}
 use Rattle.maker_run.proofs.Runs.{recipe-run}
 use Rattle.rules.specs.Sizes.{execFits, extFits}
 use Rattle.judge_spec.specs.Judged.{judgeOf}
@@ -42,12 +42,12 @@ module _ (r : Recipe) (inside : ranged r ≡ true) (e x : List ℕ) (exec-long :
   unfolding extTabled
   ext-is = rw (tabled, exec-long, ext-long)
 
-  judged : judgeOf (withTables (inputOf r) (execTabled r) (extTabled r)) ≡ Accepted
+  judged : judgeOf (withTables (recipeInput r) (execTabled r) (extTabled r)) ≡ Accepted
   judged =
-      ap₂ (λ (exec ext : List ℕ). judgeOf (withTables (inputOf r) exec ext)) (sym exec-is) (sym ext-is)
+      ap₂ (λ (exec ext : List ℕ). judgeOf (withTables (recipeInput r) exec ext)) (sym exec-is) (sym ext-is)
       ∙ recipe-run r inside .judged e x exec-fits ext-fits
 
-pub own-accepted : (r : Recipe) → ranged r ≡ true → judgeOf (withTables (inputOf r) (execTabled r) (extTabled r)) ≡ Accepted
+pub own-accepted : (r : Recipe) → ranged r ≡ true → judgeOf (withTables (recipeInput r) (execTabled r) (extTabled r)) ≡ Accepted
 own-accepted r inside =
     judged r inside (replicate (32 * height) 0) (replicate (120 * height) 0) (length-replicate {A = ℕ} (32 * height) 0)
     (length-replicate {A = ℕ} (120 * height) 0)

@@ -1,6 +1,6 @@
 -- Document 02, M-107: what the replay program prints, text by text, from its promise. Verdict 0, SIZE part 2 and LABEL
 -- are all that there is.
--- Declared in src/: Recipe (label).
+-- Declared in src/: Answer (answer); Recipe (label).
 use mathlib.Core.Path.{_≡_}
 use mathlib.Core.List.{List, [], _∷_, _++_}
 use Prim.Native.Nat.{ℕ}
