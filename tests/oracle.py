@@ -1,11 +1,12 @@
 """A second implementation of the bench, written from the documents alone.
 
-Sources: document 01 ("01, <heading>"), document 02's M-103 and M-104 ("02, M-103") and draft 0.6.0 ("0.6.0,
+Sources: document 01 ("01, <heading>"), document 02's M-103, M-104 and M-107 ("02, M-103") and draft 0.6.0 ("0.6.0,
 <section>"), with the founders' decided points where they leave a choice. It shares nothing with the bench it is
 compared with, and is plain rather than fast. Here are labels, maker and tabler; words, elements and answers are in
 oracle_words.py, the judge in oracle_judge.py, form counts in oracle_forms.py, programs of draft 0.5.0 in
 oracle_editions.py, listings in oracle_listings.py, jumps and hosts in oracle_streams.py. Run as a program it checks
-itself, and them, by oracle_check.py, oracle_lookups.py, oracle_versions.py and what those four have of their own.
+itself, and them, by oracle_check.py, oracle_lookups.py, oracle_versions.py, oracle_runs.py and what those four have of
+their own.
 """
 
 import struct
@@ -18,7 +19,8 @@ from oracle_words import (
     rows_of, six, words_of)
 
 NAMES = ("ACCEPTED", "SIZE", "WORD", "INSTRUCTION", "START", "EXEC", "EXTENSION", "BUS",
-         "LABEL", "STUCK", "ROOM", "OPEN", None, "ANSWER", "GRID", "EDITION", "LISTING", "SHORT", "HOST")
+         "LABEL", "STUCK", "ROOM", "OPEN", None,  # 12 is not used (02, M-107)
+         "ANSWER", "GRID", "EDITION", "LISTING", "SHORT", "HOST")
 VERSIONS, BOUND = (1, 2), 4261412866  # of a recipe; version 2 throws away what it draws for a cell from here on
 
 # ---- draws, labels, maker ----
@@ -212,11 +214,12 @@ if __name__ == "__main__":
     import oracle_forms
     import oracle_listings
     import oracle_lookups
+    import oracle_runs
     import oracle_streams
     import oracle_versions
 
     CHECKED = [part.self_check() for part in (oracle_check, oracle_lookups, oracle_forms, oracle_editions,
-                                              oracle_versions, oracle_listings, oracle_streams)]
+                                              oracle_versions, oracle_runs, oracle_listings, oracle_streams)]
     PASSED, FAILED = ([line for part in parts for line in part] for parts in zip(*CHECKED))
     print("\n".join(FAILED) or "oracle: %d checks passed" % len(PASSED))
     sys.exit(bool(FAILED))

@@ -285,7 +285,10 @@ mod tests {
     }
 
     #[test]
-    fn a_verdict_of_a_later_library_is_a_refusal() {
-        assert_eq!(outcome(99, &[0; ANSWER_BYTES]).unwrap_err().name(), "unknown");
+    fn a_number_that_is_no_verdict_is_a_refusal() {
+        // one that is not used, and one of a later library
+        for number in [12, 99] {
+            assert_eq!(outcome(number, &[0; ANSWER_BYTES]).unwrap_err().name(), "unknown");
+        }
     }
 }

@@ -49,8 +49,8 @@ void note(differ *d, const char *format, ...);
 void note_back(differ *d, size_t len);
 
 /* More calls are asked for.  Counts, reports, translations with what is tabled
- * of these, listings and streams come beside, so that they take the place of no
- * other. */
+ * of these, listings, streams and recipes' runs come beside, so that they take
+ * the place of no other. */
 static inline bool more_calls(const differ *d)
 {
     return d->calls - d->extra < d->limit;

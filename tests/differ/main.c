@@ -1,9 +1,9 @@
 /* Compares the library with the second implementation, call by call.
  *
  *   differ SEED CALLS             stops after that many calls, counts, reports,
- *                                 translations, listings, streams and the lists
- *                                 of versions.c, lookups.c and answers.c not
- *                                 among them
+ *                                 translations, listings, streams, recipes' runs
+ *                                 and the lists of versions.c, lookups.c and
+ *                                 answers.c not among them
  *   differ SEED 0 SECONDS         stops after that long
  *   differ --page SEED CALLS      buffers at pages that fault, small stack
  *   differ --large                a few tables of 16,383 and of 32,767 groups,
@@ -21,6 +21,7 @@
 #include <time.h>
 
 #include "lookups.h"
+#include "runs.h"
 #include "tries.h"
 #include "versions.h"
 
@@ -73,6 +74,7 @@ static void run(differ *d, uint64_t seconds)
     try_listing_sweeps(d);
     try_stream_edges(d);
     try_versions(d);
+    try_runs(d);
     try_lookups(d);
     try_answers(d);
     for (uint32_t turn = 0; more_calls(d)
@@ -101,7 +103,7 @@ int main(int argc, char **argv)
         return usage();
     printf("seed %" PRIu64 "\n", seed);
     if (!differ_open(&all, seed, paged) || !rounds_open() || !forms_open()
-        || !lookups_open() || !old_runs_open()) {
+        || !lookups_open() || !runs_open() || !old_runs_open()) {
         fprintf(stderr, "differ: no room\n");
         return 2;
     }
@@ -114,7 +116,8 @@ int main(int argc, char **argv)
     end_campaign(&all);
     bool complete = tally_report(&all.reached);
     printf("calls: %" PRIu64 ", and %" PRIu64 " of counts, reports, "
-           "translations, listings, streams and lists\ndifferences: %" PRIu64 "\n",
+           "translations, listings, streams, runs and lists\ndifferences: %"
+           PRIu64 "\n",
            all.calls - all.extra, all.extra, all.differences);
     return complete && all.differences == 0 ? 0 : 1;
 }

@@ -1,4 +1,5 @@
 /* One world, tabled, judged and counted as it is and in many other ways. */
+#include "runs.h"
 #include "tries.h"
 
 enum { JUDGED = 10 };
@@ -65,6 +66,8 @@ void try_world(differ *d)
     note_back(d, 0);
     world_make(d, &right);
     size_t mark = d->what_len;
+    if (right.recipe.n != 0)
+        try_run(d, &right);
     try_tabler(d, &right);
     for (int i = 0; i < 3 && more_calls(d); i++) {
         try_spoiled_tabler(d);

@@ -213,6 +213,7 @@ bool tally_report(const tally *t)
     complete = forms_report(t->forms) && complete;
     complete = lookup_report(&t->lookups) && complete;
     complete = version_report(&t->versions) && complete;
+    complete = run_report(&t->runs) && complete;
     complete = listing_report(&t->listings) && complete;
     complete = stream_report(&t->streams) && complete;
     return old_report(&t->olds) && complete;

@@ -8,6 +8,7 @@
 #include "listing_tally.h"
 #include "lookup_tally.h"
 #include "old_tally.h"
+#include "run_tally.h"
 #include "stream_tally.h"
 #include "version_tally.h"
 
@@ -47,6 +48,7 @@ typedef struct {
     old_tally olds;
     version_tally versions;
     lookup_tally lookups;
+    run_tally runs;
     listing_tally listings;
     stream_tally streams;
 } tally;

@@ -44,12 +44,9 @@ static uint32_t some_height(source *random)
     return once_in(random, 8) ? 256u << below(random, 5) : 256u;
 }
 
-static void make_by_recipe(differ *d, world *w)
+void world_by_recipe(differ *d, world *w, second_recipe r)
 {
-    second_recipe r = { some_seed(&d->random),
-                        once_in(&d->random, 8) ? 11 + below(&d->random, 2) : 10,
-                        1 + below(&d->random, 124),
-                        1 + below(&d->random, VERSIONS) };
+    w->recipe = r;
     w->len[PROGRAM] = unit_of(PROGRAM) * (r.n + 1);
     w->len[MEMORY] = (size_t)4 << r.m;
     w->pc = w->fp = 0;
@@ -59,11 +56,21 @@ static void make_by_recipe(differ *d, world *w)
          r.seed, r.m, r.n, r.version);
 }
 
+static void make_by_recipe(differ *d, world *w)
+{
+    second_recipe r = { some_seed(&d->random),
+                        once_in(&d->random, 8) ? 11 + below(&d->random, 2) : 10,
+                        1 + below(&d->random, 124),
+                        1 + below(&d->random, VERSIONS) };
+    world_by_recipe(d, w, r);
+}
+
 void world_make(differ *d, world *w)
 {
     w->len[EXECUTION] = unit_of(EXECUTION) * some_height(&d->random);
     w->len[EXTENSIONS] = unit_of(EXTENSIONS) * some_height(&d->random);
     w->shuffled = false;
+    w->recipe.n = 0;
     if (once_in(&d->random, 4))
         make_by_recipe(d, w);
     else

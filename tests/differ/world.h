@@ -23,6 +23,7 @@ typedef struct {
     size_t len[PARTS];
     uint64_t pc, fp;
     bool shuffled; /* pulls no longer stand in the order of the pushes */
+    second_recipe recipe; /* that made it; n is 0 if none did */
 } world;
 
 /* The bytes of one instruction, cell or row. */
@@ -57,7 +58,8 @@ static inline void put(world *w, int part, uint32_t at, uint32_t column,
     store_word(word_at(w, part, at, column), word);
 }
 
-/* world.c: the bytes there is room for in a part; false if there is none. */
+/* world.c: the bytes there is room for in a part; false if there is none.  A
+ * copy is there to be changed, so no recipe made it. */
 size_t room_of(int part);
 bool world_open(world *w);
 void world_copy(world *to, const world *from);
@@ -65,6 +67,9 @@ void world_copy(world *to, const world *from);
 /* A world made by a recipe or built step by step, with lengths for both
  * tables but not the tables. */
 void world_make(differ *d, world *w);
+
+/* What a recipe makes, from pc 0 and fp 0; the tables' lengths stay. */
+void world_by_recipe(differ *d, world *w, second_recipe r);
 
 /* A call on a world, with an answer buffer of mostly the right length. */
 attempt attempt_on(differ *d, enum function f, const world *w);

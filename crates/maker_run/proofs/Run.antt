@@ -40,27 +40,35 @@ module _ (profile : Profile) (d : Draws) (is : Drawable d) (n : ℕ) (most : n �
   form-last : m .form n ≡ formIn (decodeOf (halt n))
   form-last = h .forms n (omega arith) ∙ rw (le-ltb n n (omega arith))
 
-  instruction-goes : (i : ℕ) → i < n → step m (record { pc = i; fp = frameAt profile d i }) ≡ goes (record { pc = suc i; fp = frameAt profile d (suc i) })
+  -- at an instruction, in its frame
+  abbrev at : ℕ → State
+  at i = record { pc = i; fp = frameAt profile d i }
+
+  instruction-goes : (i : ℕ) → i < n → step m (at i) ≡ goes (at (suc i))
   unfolding frameAt
   instruction-goes i l =
       made-goes m (d .cell) (h .room) drawn (frameAt profile d i) i (frame-below profile d is i) (omega arith) (omega (arith, h .count))
       (d .a i) (d .c i) (is .a i) (is .c i) profile (d .kind i) (form-at i l, slots i l)
       ∙ ap (λ (x : ℕ). goes (record { pc = x; fp = frameAt profile d (suc i) })) (add-one i)
 
-  last-stays : step m (record { pc = n; fp = frameAt profile d n }) ≡ goes (record { pc = n; fp = frameAt profile d n })
+  last-stays : step m (at n) ≡ goes (at n)
   last-stays = halt-stays m n (frameAt profile d n) (omega (arith, h .count)) (omega (arith, frame-below profile d is n)) form-last
 
-  pub steps : (r : ℕ) → step m (stateMade profile d n r) ≡ goes (stateMade profile d n (suc r))
-  steps r =
+  -- a row and the next: before the halt, and from it on
+  by-row : (C : ℕ → ℕ → Type 0) (r : ℕ) → (r < n → C r (suc r)) → (n ≤ r → C n n) → C (min r n) (min (suc r) n)
+  by-row C r before after =
       by-order r n
       (λ l.
       let here : min r n ≡ r = omega arith in
       let next : min (suc r) n ≡ suc r = omega arith in
-      rw (here, next) (instruction-goes r l))
+      rw (here, next) (before l))
       (λ l.
       let here : min r n ≡ n = omega arith in
       let next : min (suc r) n ≡ n = omega arith in
-      rw (here, next) last-stays)
+      rw (here, next) (after l))
+
+  pub steps : (r : ℕ) → step m (stateMade profile d n r) ≡ goes (stateMade profile d n (suc r))
+  steps r = by-row (λ k l. step m (at k) ≡ goes (at l)) r (instruction-goes r) (λ _. last-stays)
 
   pub stays : (r : ℕ) → n ≤ r → step m (stateMade profile d n r) ≡ goes (stateMade profile d n r)
   stays r l = let here : min r n ≡ n = omega arith in rw here last-stays
@@ -75,15 +83,9 @@ module _ (profile : Profile) (d : Draws) (is : Drawable d) (n : ℕ) (most : n �
   -- the rows that its steps fill
   fills : (r : ℕ) → lengthAt m (stateMade profile d n r) + 2 * min r n ≤ 2 * min (suc r) n
   fills r =
-      by-order r n
-      (λ l.
-      let here : min r n ≡ r = omega arith in
-      let next : min (suc r) n ≡ suc r = omega arith in
-      rw (here, next, form-at r l) (omega (arith, made-fills profile (frameAt profile d r) r (d .kind r) (d .a r) (d .c r))))
-      (λ l.
-      let here : min r n ≡ n = omega arith in
-      let next : min (suc r) n ≡ n = omega arith in
-      rw (here, next, form-last) (omega (arith, halt-fills n)))
+      by-row (λ k l. lengthAt m (at k) + 2 * k ≤ 2 * l) r
+      (λ l. rw (form-at r l) (omega (arith, made-fills profile (frameAt profile d r) r (d .kind r) (d .a r) (d .c r))))
+      (λ _. rw form-last (omega (arith, halt-fills n)))
 
   filled-by : (r : ℕ) → filled m (stateMade profile d n) r ≤ 2 * min r n
   unfolding filled

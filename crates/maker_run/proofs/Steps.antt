@@ -11,15 +11,18 @@ use lib.ListN.{getD}
 use borrow.Author.Tests.{lt-ltb, le-leb, eq-eqb}
 use Rattle.word.specs.Word.{IsWord, _+ₚ_, _-ₚ_, _*ₚ_}
 use Rattle.word.specs.Element.{_⟨_⟩}
-use Rattle.word.proofs.Tests.{eqb-same}
+use Rattle.word.proofs.Tests.{by-test, eqb-same}
 use Rattle.word.proofs.WordLaws.{sum-zero, difference-sum}
 use Rattle.form.specs.Form.{decodeOf}
+use Rattle.form.specs.declared.Form.{Form}
+use Rattle.form.specs.declared.Operand.{Operand}
+use Rattle.form.specs.declared.Mode.the-variants.{Cell}
 use Rattle.form.specs.declared.Kind.{Kind}
 use Rattle.form.specs.declared.Kind.the-variants.{Add, Mul, Deref, Jump, Extension}
 use Rattle.form.proofs.DataLaws.{written}
 use Rattle.machine.specs.Machine.{Machine, State}
-use Rattle.machine.specs.Extension.{cellsExist, result}
-use Rattle.machine.specs.Step.{Outcome, goes, step, jumps}
+use Rattle.machine.specs.Extension.{leftSpan, cellsExist, result}
+use Rattle.machine.specs.Step.{Outcome, goes, step, targetLegal, jumps, performed}
 use Rattle.tables.specs.Machine.{formIn}
 use Rattle.tables.specs.Groups.{lengthOf}
 use Rattle.maker_spec.specs.Made.{
@@ -45,10 +48,19 @@ use Rattle.maker_spec.specs.Made.{
 use Rattle.maker_law.proofs.Making.{by-kind}
 use Rattle.maker_law.proofs.Cells.{picked-same}
 
+-- one or two elements span at most ten cells
+span-most : (be : Bool) (n : ℕ) → n ≤ 2 → leftSpan be n ≤ 10
+span-most true n h = omega arith
+span-most false n h = omega arith
+
+-- the cell at an offset
+abbrev cellAt : ℕ → Operand
+cellAt offset = record { mode = Cell; word = offset }
+
 -- a machine with the drawn cells, at instruction i, whose slot is its cells
 module _ (m : Machine) (cell : ℕ → ℕ) (room : 1024 ≤ m .size) (drawn : (k : ℕ) → k < 32 → m .cell k ≡ cell k)
     (fp i : ℕ) (low : fp < 32) (few : i < 124) (inside : i < m .count) (a c : ℕ) (a-low : a < 32) (c-low : c < 32) where
-  here : State
+  abbrev here : State
   here = record { pc = i; fp = fp }
 
   -- to the next instruction
@@ -59,33 +71,38 @@ module _ (m : Machine) (cell : ℕ → ℕ) (room : 1024 ≤ m .size) (drawn : (
   read : (x : ℕ) → x < 1024 → (fp +ₚ (x -ₚ fp) ≡ x) × (ltb x (m .size) ≡ true)
   read x h = (difference-sum x fp (omega arith), lt-ltb x (m .size) (omega arith))
 
+  -- ADD and MUL read cells a, T and c
+  abbrev threeCells : Kind → Form
+  threeCells kind = record { kind = kind; a = cellAt (a -ₚ fp); b = cellAt (slot i -ₚ fp); c = cellAt (c -ₚ fp) }
+
+  three-read : (kind : Kind) → targetLegal m here (threeCells kind) kind ≡ true → m .form i ≡ threeCells kind
+      → step m here ≡ performed m here (threeCells kind) kind (cell a) (m .cell (slot i)) (cell c)
+  unfolding step
+  three-read kind target form =
+      let (a₁, a₂) = read a (omega arith) in
+      let (b₁, b₂) = read (slot i) (omega arith) in
+      let (c₁, c₂) = read c (omega arith) in
+      rw (lt-ltb i (m .count) inside, form, target, a₁, b₁, c₁, a₂, b₂, c₂, drawn a a-low, drawn c c-low)
+
   module _ (profile : Profile) where
     abbrev Holds : Kind → Type 0
     Holds kind = (m .form i ≡ formIn (decodeOf (made profile fp i kind a c)))
         × ((j : ℕ) → j < slotSize → m .cell (slot i + j) ≡ getD (slotCells profile cell kind a c) j 0)
 
     abbrev Goes : Kind → Type 0
-    Goes kind = Holds kind → step m (record { pc = i; fp = fp }) ≡ on (frameAfter profile kind a c fp)
+    Goes kind = Holds kind → step m here ≡ on (frameAfter profile kind a c fp)
 
     -- cell T
     first : (kind : Kind) → Holds kind → m .cell (slot i) ≡ getD (slotCells profile cell kind a c) 0 0
     first kind h = ap (m .cell) (sym (add-zero (slot i))) ∙ h .1 0 (lit< tt)
 
     add-goes : Goes Add
-    unfolding step decodeOf
-    add-goes h =
-        let (a₁, a₂) = read a (omega arith) in
-        let (b₁, b₂) = read (slot i) (omega arith) in
-        let (c₁, c₂) = read c (omega arith) in
-        rw (lt-ltb i (m .count) inside, h .0, a₁, b₁, c₁, a₂, b₂, c₂, drawn a a-low, drawn c c-low, first Add h, eqb-same (cell a +ₚ cell c))
+    unfolding decodeOf
+    add-goes h = three-read Add refl (h .0) ∙ rw (first Add h, eqb-same (cell a +ₚ cell c))
 
     mul-goes : Goes Mul
-    unfolding step decodeOf
-    mul-goes h =
-        let (a₁, a₂) = read a (omega arith) in
-        let (b₁, b₂) = read (slot i) (omega arith) in
-        let (c₁, c₂) = read c (omega arith) in
-        rw (lt-ltb i (m .count) inside, h .0, a₁, b₁, c₁, a₂, b₂, c₂, drawn a a-low, drawn c c-low, first Mul h, eqb-same (cell a *ₚ cell c))
+    unfolding decodeOf
+    mul-goes h = three-read Mul refl (h .0) ∙ rw (first Mul h, eqb-same (cell a *ₚ cell c))
 
     -- α is cell T, which names cell a
     deref-goes : Goes Deref
@@ -110,10 +127,12 @@ module _ (m : Machine) (cell : ℕ → ℕ) (room : 1024 ≤ m .size) (drawn : (
 
     -- the extension's cells exist
     exists : (be : Bool) (n x y : ℕ) → n ≤ 2 → x < 32 → y < 32 → cellsExist (m .size) be n x y (slot i) ≡ true
-    exists true n x y hn hx hy =
-        rw (le-leb (x + (n + 4)) (m .size) (omega arith), le-leb (y + 5 * n) (m .size) (omega arith), le-leb (slot i + 5) (m .size) (omega arith))
-    exists false n x y hn hx hy =
-        rw (le-leb (x + 5 * n) (m .size) (omega arith), le-leb (y + 5 * n) (m .size) (omega arith), le-leb (slot i + 5) (m .size) (omega arith))
+    exists be n x y hn hx hy =
+        rw (
+          le-leb (x + leftSpan be n) (m .size) (omega (arith, span-most be n hn)),
+          le-leb (y + 5 * n) (m .size) (omega arith),
+          le-leb (slot i + 5) (m .size) (omega arith),
+        )
 
     abbrev picked : (ℕ → ℕ) → List ℕ
     picked cells = result cells (opPicked c) (bePicked c) (leftPicked a) (rightPicked a) 0 (countPicked c)
@@ -139,19 +158,16 @@ module _ (m : Machine) (cell : ℕ → ℕ) (room : 1024 ≤ m .size) (drawn : (
         )
 
   -- a jump to the next instruction, taken or not
-  bit-jump : (b frame : ℕ) → b < 2 → jumps b (i + 1) frame (record { pc = i; fp = fp }) ≡ on (cond (eqb b 1) frame fp)
+  bit-jump : (b frame : ℕ) → b < 2 → jumps b (i + 1) frame here ≡ on (cond (eqb b 1) frame fp)
   bit-jump zero frame h = refl
   bit-jump (suc zero) frame h = refl
   bit-jump (suc (suc b)) frame h = absurd (omega arith)
 
-  flat-jump : (b : ℕ) → b < 2 → jumps b (i + 1) fp (record { pc = i; fp = fp }) ≡ on fp
-  flat-jump zero h = refl
-  flat-jump (suc zero) h = refl
-  flat-jump (suc (suc b)) h = absurd (omega arith)
-
   jump-goes : (profile : Profile) → Goes profile Jump
   unfolding step decodeOf
-  jump-goes flat h = rw (lt-ltb i (m .count) inside, h .0, sum-zero fp (omega arith)) (flat-jump (c % 2) (omega arith))
+  jump-goes flat h =
+      rw (lt-ltb i (m .count) inside, h .0, sum-zero fp (omega arith))
+      (bit-jump (c % 2) fp (omega arith) ∙ ap on (by-test (λ (frame : ℕ). frame ≡ fp) (eqb (c % 2) 1) (λ _. refl) (λ _. refl)))
   jump-goes frames h =
       let (c₁, c₂) = read (slot i) (omega arith) in
       rw (lt-ltb i (m .count) inside, h .0, c₁, c₂, first frames Jump h) (bit-jump (c % 2) a (omega arith))
