@@ -54,7 +54,7 @@ def check_run(check, recipe, height=LEAST, room=LEAST):
     used, name = sum(lengths(code[:n])), "v=%d seed=%016x m=%d n=%d" % recipe + ", H %d, K %d" % (height, room)
     answer, steps, groups = table(program, memory, 0, 0, 32 * height, 120 * room)
     check("%s: tabled" % name, answer, six(0))
-    check("%s: at most 2n rows, and one to spare" % name, (used <= 2 * n, used < room), (True, True))
+    check("%s: at most 2n rows, and one to spare" % name, (used <= 2 * n, used < LEAST), (True, True))
     if answer == six(0):
         check("%s: judged" % name, judge(program, memory, 0, 0, steps, groups), six(0))
         check_states(check, name, n, steps)

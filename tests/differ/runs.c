@@ -119,7 +119,7 @@ void try_run(differ *d, world *w)
         if (rows != rows_needed(w))
             differs(d, "a recipe's run has other rows than its groups");
         if (rows > 2 * w->recipe.n || rows + 1 > LEAST)
-            differs(d, "a recipe's run leaves no row to spare");
+            differs(d, "a recipe's run has above 2n rows, or none to spare");
     }
     count_run(&d->reached.runs, w, rows_needed(w));
     note_back(d, mark);
@@ -144,7 +144,8 @@ static void try_made(differ *d, second_recipe r, uint32_t height, uint32_t room)
     try_run(d, &made);
 }
 
-/* Seeds that throw away most draws, both ends of the range, and any. */
+/* Any seed with more memory and larger tables; in the least ones also seeds
+ * that throw away most draws, and both ends of the range. */
 static void try_length(differ *d, uint32_t version, uint32_t n)
 {
     source *random = &d->random;

@@ -5,11 +5,11 @@
 #include "world.h"
 
 /* The law on a world that a recipe made: maker, tabler and judge accept, both
- * those of the library and the second's, and the tables are as M-107 says.  All
- * four parts of the world are then as the library left them. */
+ * those of the library and the second's, and the tables are as M-107 says.
+ * All parts of the world are then as the library left them. */
 void try_run(differ *d, world *w);
 
-/* Both versions at the ends of n, with seeds of every sort and larger tables. */
+/* Both versions at the ends of n, with seeds of all sorts and larger tables. */
 bool runs_open(void);
 void try_runs(differ *d);
 

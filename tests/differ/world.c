@@ -37,6 +37,7 @@ void world_copy(world *to, const world *from)
     to->pc = from->pc;
     to->fp = from->fp;
     to->shuffled = from->shuffled;
+    to->recipe.n = 0;
 }
 
 static uint32_t some_height(source *random)
