@@ -15,7 +15,7 @@ use Rattle.maker_draws.specs.Drawn.{Draws}
 use Rattle.maker_spec.specs.Made.{flat, kindPicked, made, halt, instructionMade, slotCells, cellOf}
 use Rattle.maker.specs.Inner.{cellIn, eight}
 use Rattle.maker_spec.specs.Bytes.{wordBytes, instructionsOf, cellsOf}
-use Rattle.word.proofs.Concatenated.{lent-length, parts-length, parts-append, parts-same, parts-one}
+use Rattle.word.proofs.Concatenated.{lent-length, parts-append, parts-same, parts-one}
 use Rattle.maker_law.proofs.Frames.{frame-flat}
 use Rattle.maker_law.proofs.ReadBack.{words-length, program-length, cells-length}
 use Rattle.maker.proofs.Parts.{zero-parts, lent, behind, front-length}

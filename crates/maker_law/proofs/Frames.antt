@@ -6,7 +6,7 @@ use lib.Dec.{lit<}
 use Rattle.word.proofs.Tests.{by-test}
 use Rattle.form.specs.declared.Kind.{Kind}
 use Rattle.maker_draws.specs.Drawn.{Draws}
-use Rattle.maker_spec.specs.Made.{Drawable, Profile, flat, frames, jumpTaken, jumpFrame, frameAfter, kindDrawn, frameAt}
+use Rattle.maker_spec.specs.Made.{Drawable, Profile, flat, frames, jumpTaken, jumpFrame, frameAfter, frameAt}
 use Rattle.maker_law.proofs.Making.{by-kind}
 
 pub frame-flat : (d : Draws) (i : ℕ) → frameAt flat d i ≡ 0

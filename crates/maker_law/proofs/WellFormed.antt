@@ -31,7 +31,6 @@ use Rattle.maker_spec.specs.Made.{
   leftPicked,
   rightPicked,
   kindPicked,
-  kindDrawn,
   jumpMade,
   made,
   jumpCells,

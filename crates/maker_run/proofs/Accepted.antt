@@ -17,7 +17,7 @@ use Rattle.rules.specs.Sizes.{isPower, programFits, memoryFits, execFits, extFi
 use Rattle.judge_spec.proofs.Lengths.{whole}
 use Rattle.tables.specs.Machine.{formIn}
 use Rattle.maker_draws.specs.Drawn.{Draws}
-use Rattle.maker_spec.specs.Made.{Drawable, Profile, instructionMade}
+use Rattle.maker_spec.specs.Made.{Drawable, Profile}
 use Rattle.maker_spec.specs.Bytes.{instructionsOf, cellsOf}
 use Rattle.maker_law.proofs.WellFormed.{well-formed}
 use Rattle.maker_law.proofs.ReadBack.{program-length, cells-length, cell-read, memory-word, instruction-read, program-word}

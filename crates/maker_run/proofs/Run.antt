@@ -1,7 +1,7 @@
 -- The run of what draws make, on a machine that holds it: after r steps it is at instruction r, and from n on it stays
 -- there; each step fills at most two extension rows.
 -- Assumes nothing.
-use mathlib.Core.Path.{_≡_, sym, ap, _∙_}
+use mathlib.Core.Path.{_≡_, ap, _∙_}
 use Prim.Native.Nat.{ℕ, zero, suc, _+_, _*_, _≤_, _<_, min}
 use native.Mathlib.Numerals.{add-one}
 use native.Mathlib.Omega.{arith}

@@ -1,7 +1,7 @@
 -- One law for each kind: in its frame an instruction goes on to the next, in the frame after it.
 -- Assumes nothing.
 use mathlib.Core.Path.{_≡_, refl, sym, ap, _∙_}
-use mathlib.Core.Bool.{Bool, true, false, cond, _&&_}
+use mathlib.Core.Bool.{Bool, true, false, cond}
 use mathlib.Core.List.{List}
 use Prim.Native.Nat.{ℕ, zero, suc, _+_, _*_, _%_, _≤_, _<_}
 use native.Mathlib.Nat.{add-zero}
@@ -40,9 +40,7 @@ use Rattle.maker_spec.specs.Made.{
   halt,
   jumpMade,
   made,
-  jumpFrame,
   frameAfter,
-  jumpCells,
   slotCells,
 }
 use Rattle.maker_law.proofs.Making.{by-kind}

@@ -17,8 +17,8 @@ use Rattle.tables.specs.Groups.{filled}
 use Rattle.label.specs.Label.{ranged}
 use Rattle.label.specs.declared.Recipe.{Recipe}
 use Rattle.maker_draws.specs.Drawn.{Draws}
-use Rattle.maker_spec.specs.Made.{Drawable, Profile, flat, frameAt}
-use Rattle.maker_spec.specs.Bytes.{instructionsOf, cellsOf, recipeDraws, programOf, memoryOf}
+use Rattle.maker_spec.specs.Made.{Drawable, Profile, frameAt}
+use Rattle.maker_spec.specs.Bytes.{instructionsOf, cellsOf, programOf, memoryOf}
 use Rattle.run.specs.Runs.{Input, machine, startOf, Permitted, LegalRun, Spare, JudgeAccepts}
 use Rattle.run.specs.Tabler.{answerFor, execLeft, extLeft}
 
