@@ -79,18 +79,18 @@ EDITS = [
     ("twice as many hosts", STREAM + "Host.antt", r"^hosts = .*$", "hosts = 2 ^ 25"),
     ("hosts 2^41 draws apart", STREAM + "Host.antt", r"^ownDraws = .*$", "ownDraws = 2 ^ 41"),
     ("a host that starts 2^24 draws on from the one before", STREAM + "Host.antt", r"after \(k \* ownDraws\) g", "after (k * hosts) g"),
+    ("a refused host that jumps", STREAM + "Host.antt", r"answer = Host; generator = g ", "answer = Host; generator = after k g "),
     ("a slot of 4 cells", MADE, r"^slotSize = 8$", "slotSize = 4"),
     ("an extension's C at T + 1", MADE, r"fc = 1; c = slot i;", "fc = 1; c = slot i + 1;"),
     ("an extension's B at 28", MADE, r"^rightPicked a = 16 \+", "rightPicked a = 28 +"),
     ("an extension of three elements", MADE, r"^countPicked c = 1 \+ c % 2$", "countPicked c = 1 + c % 3"),
-    ("DEREF's C at T", MADE, r"c = slot i \+ 1 -ₚ fp", "c = slot i -ₚ fp"),
+    ("DEREF's C at T", MADE, r"c = \(slot i \+ 1\) -ₚ fp", "c = slot i -ₚ fp"),
     ("a jump over the next instruction", MADE, r"jumpTo \(c % 2\) \(i \+ 1\)", "jumpTo (c % 2) (i + 2)"),
     ("a halt that goes on", MADE, r"^halt n = .*$", "halt n = jumpTo 1 (n + 1)"),
     ("a halt that isn't taken", MADE, r"^halt n = .*$", "halt n = jumpTo 0 n"),
     ("an offset that isn't taken minus fp", MADE, r"(mul = 1; .*) b = slot i -ₚ fp", r"\1 b = slot i"),
     ("an untaken jump that changes the frame", MADE, r"^jumpTaken c = .*$", "jumpTaken c = eqb (c % 2) 0"),
     ("a jump whose new frame isn't stored", MADE, r"^jumpCells frames a = .*$", "jumpCells frames a = []"),
-    ("a refused host that jumps", STREAM + "Host.antt", r"answer = Host; generator = g ", "answer = Host; generator = after k g "),
 ]
 
 # the crate of theorems that must refuse an edit, by the crate that is edited; of the others it is run

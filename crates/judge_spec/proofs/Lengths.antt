@@ -7,6 +7,8 @@ use native.Mathlib.Nat.{le-of-eq, le-trans}
 use native.Mathlib.Omega.{arith}
 use lib.Dec.{T, leb, leb→le, eqb, eqb→eq}
 use lib.Pow.{pow-mono}
+use borrow.Author.Tests.{le-leb}
+use Rattle.word.proofs.Tests.{eqb-same, by-order}
 use Rattle.rules.specs.Sizes.{isPower, powerOf, programFits}
 use Rattle.judge_spec.proofs.Cases.{both}
 
@@ -33,6 +35,19 @@ between n low (suc high) t =
     (λ u.
     let b = between n low high u in
     record { least = b .least; most = le-trans (b .most) (pow-mono (omega arith)) })
+
+-- and each power in the range passes
+or-right : (a b : Bool) → T b → T (a || b)
+or-right true b t = tt
+or-right false b t = t
+
+pub power-passes : (k low high : ℕ) → low ≤ k → k ≤ high → T (isPower (2 ^ k) low high)
+power-passes k low zero least most = let e : k ≡ 0 = omega arith in rw (e, le-leb low 0 (omega arith)) tt
+power-passes k low (suc high) least most =
+    rw (le-leb low (suc high) (omega arith))
+    (by-order k (suc high)
+    (λ l. or-right (eqb (2 ^ k) (2 ^ suc high)) (isPower (2 ^ k) low high) (power-passes k low high least (omega arith)))
+    (λ l. let e : k ≡ suc high = omega arith in rw (e, eqb-same (2 ^ suc high)) tt))
 
 -- a part of whole units, of a number in range
 pub record Whole (bytes unit high : ℕ) : Type 0 where

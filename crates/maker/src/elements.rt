@@ -3,7 +3,7 @@ use element_ops::none;
 use element_ops::with_term;
 use form::Op;
 ghost use mathlib.Core.Path.{_≡_};
-ghost use Prim.Native.Nat.{_+_, _*_, _%_, _≤_, _<_};
+ghost use Prim.Native.Nat.{_+_, _≤_, _<_};
 ghost use Rattle.machine.specs.Extension.{elementAt, leftAt, rightAt, termOf, joined, result};
 ghost use Rattle.maker_spec.specs.Made.{opPicked, bePicked, countPicked, leftPicked, rightPicked};
 ghost use Rattle.maker.specs.Inner.{cellIn};

@@ -4,4 +4,3 @@ pub mod Frames
 pub mod WellFormed
 pub mod ReadBack
 pub mod Seeds
-pub mod Versions

@@ -6,6 +6,7 @@ use mathlib.Core.List.{[], _∷_}
 use Prim.Native.Nat.{ℕ, _+_, _-_, _/_, _%_, _≤_, _<_}
 use native.Mathlib.Nat.{mod-lt}
 use native.Mathlib.Omega.{arith}
+use borrow.Author.Tests.{ltb-true}
 use lib.Dec.{ltb, lit<}
 use lib.ListN.{getD}
 use Rattle.word.specs.Word.{p, IsWord, _+ₚ_, _*ₚ_}
@@ -58,7 +59,7 @@ well-formed profile d n i =
 
 -- a recipe's draws are in their ranges
 pub drawable : (version seed : ℕ) → Drawable (drawsOf version seed)
-drawable version seed = record { cells = λ k. mod-lt _ (lit< tt); a = λ i. mod-lt _ (lit< tt); c = λ i. mod-lt _ (lit< tt) }
+drawable version seed = record { cells = λ k h. mod-lt _ (lit< tt); a = λ i. mod-lt _ (lit< tt); c = λ i. mod-lt _ (lit< tt) }
 
 jump-words : (profile : Profile) (fp i c : ℕ) → i ≤ 124 → AllBelow p (instructionWords (jumpMade profile fp i c))
 jump-words flat fp i c h = omega arith
@@ -87,12 +88,12 @@ module _ (profile : Profile) (d : Draws) (is : Drawable d) (n : ℕ) where
   slot-words kind a c h =
       by-kind (λ (k : Kind). (j : ℕ) → IsWord (getD (slotCells profile (d .cell) k a c) j 0)) kind c
       (each-below ((d .cell a +ₚ d .cell c) ∷ []) (sum-word _ _, lit< tt)) (each-below ((d .cell a *ₚ d .cell c) ∷ []) (product-word _ _, lit< tt))
-      (each-below (a ∷ d .cell a ∷ []) (omega arith, (is .cells a, lit< tt))) (each-below (jumpCells profile a) (jump-cells profile a h))
+      (each-below (a ∷ d .cell a ∷ []) (omega arith, (is .cells a h, lit< tt))) (each-below (jumpCells profile a) (jump-cells profile a h))
       (λ j. result-element (d .cell) (opPicked c) (bePicked c) (leftPicked a) (rightPicked a) 0 (countPicked c) .all-words j)
 
   pub cell-word : (k : ℕ) → IsWord (cellOf profile d n k)
   unfolding cellOf
   cell-word k =
       let i = (k - 32) / slotSize in
-      by-test IsWord (ltb k 32) (λ t. is .cells k)
+      by-test IsWord (ltb k 32) (λ t. is .cells k (ltb-true k 32 t))
       (λ t. by-test IsWord (ltb i n) (λ s. slot-words (d .kind i) (d .a i) (d .c i) (is .a i) ((k - 32) % slotSize)) (λ s. lit< tt))

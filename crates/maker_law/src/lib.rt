@@ -1,1 +1,1 @@
-// That what is made is well-formed and reads back, and that seed and version matter. Theorems alone, in proofs/.
+// That what is made is well-formed and reads back, and that the seed matters. Theorems alone, in proofs/.

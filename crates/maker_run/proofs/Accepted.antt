@@ -1,60 +1,56 @@
 -- What draws make, as bytes: permitted, and its run's tables accepted.
 -- Assumes nothing.
-use mathlib.Core.Path.{_≡_, sym, ap, subst}
-use mathlib.Core.Bool.{Bool, true, false, _||_}
+use mathlib.Core.Path.{_≡_, sym, ap, subst, _∙_}
 use mathlib.Core.List.{List}
-use Prim.Native.Nat.{ℕ, zero, suc, _+_, _*_, _/_, _%_, _^_, _≤_, _<_, _-_}
+use Prim.Native.Nat.{ℕ, _+_, _*_, _/_, _%_, _^_, _≤_, _<_, _-_}
 use native.Mathlib.Omega.{arith}
-use lib.Dec.{T, lit<, eqb}
-use lib.ListN.{length}
+use lib.Dec.{T, lit<}
+use lib.ListN.{length, getD}
 use lib.Pow.{pow-mono}
-use borrow.Author.Tests.{le-leb}
 use Rattle.answer.specs.declared.Answer.the-variants.{Accepted}
-use Rattle.word.proofs.Tests.{eqb-same, by-order}
+use Rattle.word.specs.Word.{IsWord}
+use Rattle.word.proofs.Tests.{from-true}
 use Rattle.form.specs.Form.{decodeOf, wellFormed}
+use Rattle.form.specs.Instruction.{instructionAt, instructionWords}
 use Rattle.form.specs.declared.Instruction.{Instruction}
-use Rattle.rules.specs.Sizes.{isPower, programFits, memoryFits, execFits, extFits}
-use Rattle.judge_spec.proofs.Lengths.{whole}
+use Rattle.form_bytes.proofs.ReadBack.{written, instruction-read}
+use Rattle.rules.specs.Sizes.{programFits, memoryFits, execFits, extFits}
+use Rattle.rules.specs.Satisfies.{Words}
+use Rattle.rules.proofs.Programs.{written-fits, written-words}
+use Rattle.judge_spec.proofs.Lengths.{whole, power-passes}
 use Rattle.tables.specs.Machine.{formIn}
 use Rattle.maker_draws.specs.Drawn.{Draws}
-use Rattle.maker_spec.specs.Made.{Drawable, Profile}
+use Rattle.maker_spec.specs.Made.{Drawable, Profile, instructionMade}
 use Rattle.maker_spec.specs.Bytes.{instructionsOf, cellsOf}
-use Rattle.maker_law.proofs.WellFormed.{well-formed}
-use Rattle.maker_law.proofs.ReadBack.{program-length, cells-length, cell-read, memory-word, instruction-read, program-word}
+use Rattle.maker_law.proofs.WellFormed.{well-formed, program-words}
+use Rattle.maker_law.proofs.ReadBack.{as-written, program-length, cells-length, cell-read, memory-word}
 use Rattle.run.specs.Runs.{machine, Permitted, LegalRun, Spare, JudgeAccepts}
 use Rattle.run.specs.Tabler.{answerFor, execLeft, extLeft}
 use Rattle.run.proofs.Tabler.{run-accepted, own-bytes}
 use Rattle.maker_run.specs.Runs.{inputMade, stateMade, MadeRun}
-use Rattle.maker_run.proofs.Run as run
-
--- a power in its range
-or-right : (a b : Bool) → T b → T (a || b)
-or-right true b t = tt
-or-right false b t = t
-
-power-of : (k high : ℕ) → 8 ≤ k → k ≤ high → T (isPower (2 ^ k) 8 high)
-power-of k zero low most = absurd (omega arith)
-power-of k (suc high) low most =
-    rw (le-leb 8 (suc high) (omega arith))
-    (by-order k (suc high)
-    (λ l. or-right (eqb (2 ^ k) (2 ^ suc high)) (isPower (2 ^ k) 8 high) (power-of k high low (omega arith)))
-    (λ l. let e : k ≡ suc high = omega arith in rw (e, eqb-same (2 ^ suc high)) tt))
-
-program-fits : (n : ℕ) → n ≤ 124 → T (programFits (48 * (n + 1)))
-program-fits n h =
-    let rest : 48 * (n + 1) % 48 ≡ 0 = omega arith in
-    let number : 48 * (n + 1) / 48 ≡ n + 1 = omega arith in
-    rw (rest, number, le-leb 1 (n + 1) (omega arith), le-leb (n + 1) (2 ^ 20) (omega arith)) tt
+use Rattle.maker_run.proofs.OnMachine as run
 
 memory-fits : (m : ℕ) → 10 ≤ m → m ≤ 29 → T (memoryFits (4 * 2 ^ m))
 memory-fits m low high =
     let rest : 4 * 2 ^ m % 4 ≡ 0 = omega arith in
     let number : 4 * 2 ^ m / 4 ≡ 2 ^ m = omega arith in
-    rw (rest, number) (power-of m 29 (omega arith) high)
+    rw (rest, number) (power-passes m 8 29 (omega arith) high)
 
 module _ (profile : Profile) (d : Draws) (is : Drawable d) (n m : ℕ) (few : n ≤ 124) (low : 10 ≤ m) (high : m ≤ 29) where
   wide : 1024 ≤ 2 ^ m
   wide = pow-mono low
+
+  -- the program, as it is written
+  program : instructionsOf profile d n (n + 1) ≡ written (instructionMade profile d n) (n + 1)
+  program = as-written profile d n (n + 1)
+
+  words : (i : ℕ) → i < n + 1 → (j : ℕ) → IsWord (getD (instructionWords (instructionMade profile d n i)) j 0)
+  words i h = program-words profile d is n few i (omega arith)
+
+  instruction-at : (i : ℕ) → i < n + 1 → instructionAt (instructionsOf profile d n (n + 1)) (48 * i) ≡ instructionMade profile d n i
+  instruction-at i h =
+      ap (λ (bytes : List ℕ). instructionAt bytes (48 * i)) program
+      ∙ instruction-read (instructionMade profile d n) (n + 1) i h (λ j. omega (arith, words i h j))
 
   count : length (instructionsOf profile d n (n + 1)) / 48 ≡ n + 1
   count = omega (arith, program-length profile d n (n + 1))
@@ -67,20 +63,22 @@ module _ (profile : Profile) (d : Draws) (is : Drawable d) (n m : ℕ) (few : n 
       record {
         count = count;
         room = omega (arith, wide, size);
-        forms = λ i h. ap (λ (x : Instruction). formIn (decodeOf x)) (instruction-read profile d n is few i h);
+        forms = λ i h. ap (λ (x : Instruction). formIn (decodeOf x)) (instruction-at i (omega arith));
         cells = λ k h. cell-read profile d n is (2 ^ m) k (omega (arith, wide));
       }
 
   permitted : Permitted (inputMade profile d n m)
   permitted =
       record {
-        program-size = subst (λ (x : ℕ). T (programFits x)) (sym (program-length profile d n (n + 1))) (program-fits n few);
+        program-size =
+            subst (λ (bytes : List ℕ). T (programFits (length bytes))) (sym program)
+            (from-true _ (written-fits (instructionMade profile d n) (n + 1) (omega arith) (omega arith)));
         memory-size = subst (λ (x : ℕ). T (memoryFits x)) (sym (cells-length profile d n (2 ^ m))) (memory-fits m low high);
-        program-words = λ k h. program-word profile d n is few k (omega (arith, program-length profile d n (n + 1)));
+        program-words = subst Words (sym program) (written-words (instructionMade profile d n) (n + 1) words);
         memory-words = λ k h. memory-word profile d n is (2 ^ m) k (omega (arith, cells-length profile d n (2 ^ m)));
         instructions =
             λ k h.
-            subst (λ (x : Instruction). T (wellFormed x)) (sym (instruction-read profile d n is few k (omega (arith, count))))
+            subst (λ (x : Instruction). T (wellFormed x)) (sym (instruction-at k (omega (arith, count))))
             (rw (well-formed profile d n k) tt);
         fp-word = lit< tt;
       }

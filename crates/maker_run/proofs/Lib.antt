@@ -1,4 +1,4 @@
 pub mod Steps
-pub mod Run
+pub mod OnMachine
 pub mod Accepted
 pub mod Runs

@@ -83,15 +83,15 @@ module _ (m : Machine) (cell : ℕ → ℕ) (room : 1024 ≤ m .size) (drawn : (
       rw (lt-ltb i (m .count) inside, form, target, a₁, b₁, c₁, a₂, b₂, c₂, drawn a a-low, drawn c c-low)
 
   module _ (profile : Profile) where
-    abbrev Holds : Kind → Type 0
-    Holds kind = (m .form i ≡ formIn (decodeOf (made profile fp i kind a c)))
+    abbrev Present : Kind → Type 0
+    Present kind = (m .form i ≡ formIn (decodeOf (made profile fp i kind a c)))
         × ((j : ℕ) → j < slotSize → m .cell (slot i + j) ≡ getD (slotCells profile cell kind a c) j 0)
 
     abbrev Goes : Kind → Type 0
-    Goes kind = Holds kind → step m here ≡ on (frameAfter profile kind a c fp)
+    Goes kind = Present kind → step m here ≡ on (frameAfter profile kind a c fp)
 
     -- cell T
-    first : (kind : Kind) → Holds kind → m .cell (slot i) ≡ getD (slotCells profile cell kind a c) 0 0
+    first : (kind : Kind) → Present kind → m .cell (slot i) ≡ getD (slotCells profile cell kind a c) 0 0
     first kind h = ap (m .cell) (sym (add-zero (slot i))) ∙ h .1 0 (lit< tt)
 
     add-goes : Goes Add
@@ -106,6 +106,7 @@ module _ (m : Machine) (cell : ℕ → ℕ) (room : 1024 ≤ m .size) (drawn : (
     deref-goes : Goes Deref
     unfolding step decodeOf
     deref-goes h =
+        let second : made profile fp i Deref a c .c ≡ (slot i + 1) -ₚ fp = refl in
         let (a₁, a₂) = read (slot i) (omega arith) in
         let (c₁, c₂) = read (slot i + 1) (omega arith) in
         rw (
@@ -143,6 +144,7 @@ module _ (m : Machine) (cell : ℕ → ℕ) (room : 1024 ≤ m .size) (drawn : (
     unfolding step decodeOf
     extension-goes h =
         let last : 4 < slotSize = lit< tt in
+        let place : made profile fp i (Extension (opPicked c) (bePicked c) (countPicked c)) a c .c ≡ slot i = refl in
         rw (
           lt-ltb i (m .count) inside,
           h .0,
@@ -178,7 +180,9 @@ module _ (m : Machine) (cell : ℕ → ℕ) (room : 1024 ≤ m .size) (drawn : (
 pub halt-stays : (m : Machine) (n fp : ℕ) → n < m .count → IsWord fp → m .form n ≡ formIn (decodeOf (halt n))
     → step m (record { pc = n; fp = fp }) ≡ goes (record { pc = n; fp = fp })
 unfolding step decodeOf
-halt-stays m n fp inside w form = rw (lt-ltb n (m .count) inside, form, sum-zero fp w)
+halt-stays m n fp inside w form =
+    let taken : halt n .a ≡ 1 = refl in
+    rw (lt-ltb n (m .count) inside, form, sum-zero fp w)
 
 -- how many extension rows it fills: none, 1 or 2
 jump-fills : (profile : Profile) (fp i c : ℕ) → lengthOf (formIn (decodeOf (jumpMade profile fp i c)) .kind) ≡ 0

@@ -16,9 +16,9 @@ use Rattle.form.specs.declared.Op.the-variants as op
 use Rattle.machine.specs.Extension.{result}
 use Rattle.maker_draws.specs.Drawn.{Draws}
 
--- draws in their ranges: cells are words, a and c below 32
+-- draws in their ranges: 32 words, a and c below 32
 pub record Drawable (d : Draws) : Type 0 where
-  pub cells : (k : ℕ) → IsWord (d .cell k)
+  pub cells : (k : ℕ) → k < 32 → IsWord (d .cell k)
   pub a : (i : ℕ) → d .a i < 32
   pub c : (i : ℕ) → d .c i < 32
 
@@ -88,7 +88,7 @@ made profile fp i Add a c =
 made profile fp i Mul a c =
     record { mul = 1; a = a -ₚ fp; b = slot i -ₚ fp; c = c -ₚ fp; fa = 0; fb = 0; fc = 0; fpc = 0; fpab = 0; jump = 0; aux = 0; «data» = 0 }
 made profile fp i Deref a c =
-    record { aux = 2; a = slot i -ₚ fp; fb = 1; b = 0; c = slot i + 1 -ₚ fp; fa = 0; fc = 0; fpc = 0; fpab = 0; mul = 0; jump = 0; «data» = 0 }
+    record { aux = 2; a = slot i -ₚ fp; fb = 1; b = 0; c = (slot i + 1) -ₚ fp; fa = 0; fc = 0; fpc = 0; fpab = 0; mul = 0; jump = 0; «data» = 0 }
 made profile fp i Jump a c = jumpMade profile fp i c
 made profile fp i (Extension op be n) a c =
     record { «data» = dataWord op be n; fa = 1; a = leftPicked a; fb = 1; b = rightPicked a; fc = 1; c = slot i; fpc = 0; fpab = 0; mul = 0; jump = 0; aux = 0 }

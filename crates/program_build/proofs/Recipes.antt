@@ -47,8 +47,8 @@ module _ (r : Recipe) (inside : ranged r ≡ true) (e x : List ℕ) (exec-long :
       ap₂ (λ (exec ext : List ℕ). judgeOf (withTables (recipeInput r) exec ext)) (sym exec-is) (sym ext-is)
       ∙ recipe-run r inside .judged e x exec-fits ext-fits
 
-pub own-accepted : (r : Recipe) → ranged r ≡ true → judgeOf (withTables (recipeInput r) (execTabled r) (extTabled r)) ≡ Accepted
-own-accepted r inside =
+pub judged-accepted : (r : Recipe) → ranged r ≡ true → judgeOf (withTables (recipeInput r) (execTabled r) (extTabled r)) ≡ Accepted
+judged-accepted r inside =
     judged r inside (replicate (32 * height) 0) (replicate (120 * height) 0) (length-replicate {A = ℕ} (32 * height) 0)
     (length-replicate {A = ℕ} (120 * height) 0)
 

@@ -15,7 +15,7 @@ use Rattle.label.specs.declared.Recipe.{Recipe}
 use Rattle.label.specs.declared.Reading.{Reading}
 use Rattle.label.proofs.Label.{label-reads}
 use Rattle.program_build.specs.Output.{Fills, Outputs}
-use Rattle.program_build.proofs.Recipes.{own-accepted}
+use Rattle.program_build.proofs.Recipes.{judged-accepted}
 use Rattle.replay.specs.Replay.{linesOf, judgedOf, replayOf, replayOutput}
 use Rattle.replay.specs.Prints.{Prints}
 
@@ -34,7 +34,7 @@ module _ (before after : List ℕ) (size : ℕ) where
 
     accepts : r .m ≡ 10 → Fills (labelOf r ++ linesOf Accepted) before after size
     unfolding replayOf judgedOf
-    accepts ten = label-and Accepted (rw (eq-eqb (r .m) 10 ten) (own-accepted r (inside .ranges)))
+    accepts ten = label-and Accepted (rw (eq-eqb (r .m) 10 ten) (judged-accepted r (inside .ranges)))
 
     other-m : (r .m ≡ 10 → ⊥) → Fills (labelOf r ++ linesOf (Size 2 0)) before after size
     unfolding replayOf

@@ -15,7 +15,7 @@ ghost use Rattle.program_build.specs.Inner.{Spaces};
 ghost use Rattle.replay.specs.Replay.{judgedOf, replayOf};
 
 // The judge's answer to the recipe's own tables.
-fn own(
+fn judged(
     recipe: Recipe,
     program: &mut [u8],
     memory: &mut [u8],
@@ -30,7 +30,7 @@ fn own(
 }
 
 // The same in buffers of its own.
-fn own_in_space(recipe: Recipe) -> Answer
+fn judged_in_space(recipe: Recipe) -> Answer
     requires { ⌜ (ranged recipe ≡ true) × (recipe .m ≡ 10) ⌝ }
     ensures { λ r. ⌜ r ≡ judgedOf recipe ⌝ }
 {
@@ -39,7 +39,7 @@ fn own_in_space(recipe: Recipe) -> Answer
     let mut exec = exec_space();
     let mut ext = ext_space();
     let end = 48 * (recipe.n as usize + 1);
-    own(
+    judged(
         recipe,
         &mut program[..end],
         &mut memory,
@@ -56,5 +56,5 @@ pub(crate) fn answer_to(recipe: Recipe) -> Answer
     if recipe.m != 10 {
         return Answer::Size { part: 2, place: 0 };
     }
-    own_in_space(recipe)
+    judged_in_space(recipe)
 }

@@ -2,8 +2,8 @@
 use borrow.Author.Needs.{needs}
 use mathlib.Core.Path.{_∙_}
 use Rattle.replay.specs.Replay.{judgedOf}
-use Rattle.replay.proofs.own.own.Statement.{statement}
-use Rattle.replay.proofs.own.own.Tie as tie
+use Rattle.replay.proofs.own.judged.Statement.{statement}
+use Rattle.replay.proofs.own.judged.Tie as tie
 
 returns : tie.Need-returns
 unfolding judgedOf
@@ -11,8 +11,8 @@ returns c =
     let built = c .before .before .before .before .before .before .before .before .before .before .before .before .before .build .ensures in
     c .judge .ensures ∙ rw (built .0, built .1, built .2, built .3)
 
-pub own-spec : {M : Type 1} → statement M
-own-spec =
+pub judged-spec : {M : Type 1} → statement M
+judged-spec =
     tie.close
     (tie.spec
     (λ c κs. search needs)
