@@ -1,4 +1,5 @@
--- The six numbers name one answer: a table from the verdict gives the answer back. 12 stands for none.
+-- The six numbers name one answer: a table from the verdict gives the answer back. 12 is no answer's, and in its place
+-- stands ACCEPTED, as for any number past the table.
 -- Assumes nothing.
 use mathlib.Core.Path.{_≡_, refl, sym, ap, _∙_}
 use mathlib.Core.Bool.{true}
