@@ -30,6 +30,7 @@ use Rattle.answer.specs.declared.Answer.the-variants.{
   Listing,
   Short,
   Host,
+  ListShort,
 }
 
 abbrev answerIn : ℕ → ℕ → ℕ → ℕ → ℕ → ℕ → Answer
@@ -54,6 +55,7 @@ answerIn verdict part place rule expected found =
     ∷ Listing place
     ∷ Short place
     ∷ Host
+    ∷ ListShort place
     ∷ [])
     verdict Accepted
 
@@ -79,6 +81,7 @@ named-back (Edition place) = refl
 named-back (Listing place) = refl
 named-back (Short place) = refl
 named-back Host = refl
+named-back (ListShort place) = refl
 
 pub one-number : (a b : Answer) → numbersOf a ≡ numbersOf b → a ≡ b
 one-number a b e = sym (named-back a) ∙ ap named e ∙ named-back b

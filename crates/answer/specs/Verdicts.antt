@@ -26,6 +26,7 @@ use Rattle.answer.specs.declared.Answer.the-variants.{
   Listing,
   Short,
   Host,
+  ListShort,
 }
 
 abbrev pub six : ℕ → ℕ → ℕ → ℕ → ℕ → ℕ → Numbers
@@ -54,6 +55,7 @@ numbersOf (Edition place) = four 15 0 place 0
 numbersOf (Listing place) = four 16 0 place 0
 numbersOf (Short place) = four 17 0 place 0
 numbersOf Host = four 18 0 0 0
+numbersOf (ListShort place) = four 19 0 place 0
 
 -- verdict 0
 abbrev pub accepted : Answer → Bool

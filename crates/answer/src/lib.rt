@@ -58,6 +58,9 @@ pub enum Answer {
         place: u32,
     },
     Host,
+    ListShort {
+        place: u32,
+    },
 }
 
 // An answer as the paper counts it. What a verdict does not name is 0.
@@ -123,6 +126,7 @@ pub fn six_numbers(a: Answer) -> Numbers
         Answer::Listing { place } => four(16, 0, place, 0),
         Answer::Short { place } => four(17, 0, place, 0),
         Answer::Host => four(18, 0, 0, 0),
+        Answer::ListShort { place } => four(19, 0, place, 0),
     }
 }
 

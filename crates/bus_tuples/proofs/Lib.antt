@@ -5,3 +5,4 @@ pub mod TimesLaws
 pub mod Pulling
 pub mod Pushing
 pub mod OrderLaws
+pub mod AcceptedRows

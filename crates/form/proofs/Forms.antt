@@ -72,7 +72,7 @@ module _ (i : Instruction) where
       let e = each (eqb (i .mul) mul) (eqb (i .jump) jump ∷ eqb (i .aux) aux ∷ []) t in
       record { mul-is = eqb-true _ _ (e .0); jump-is = eqb-true _ _ (e .1 .0); aux-is = eqb-true _ _ (e .1 .1) }
 
-  plain-of : plain i ≡ true → Plain i
+  pub plain-of : plain i ≡ true → Plain i
   plain-of t =
       let e = each (eqb (i .fpab) 0) (eqb (i .«data») 0 ∷ []) t in
       record { fpab-is = eqb-true _ _ (e .0); data-is = eqb-true _ _ (e .1) }

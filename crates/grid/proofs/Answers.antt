@@ -13,10 +13,10 @@ use Rattle.answer.proofs.Named.{accepted-is}
 use Rattle.rules.specs.Sizes.{Parts, givenOf, tablesOf, given, tables}
 use Rattle.judge_spec.specs.Judged.{judgeOf}
 use Rattle.bus_tuples.specs.Ready.{Listed}
+use Rattle.bus_tuples.proofs.AcceptedRows.{accepted-listed}
 use Rattle.grid_spec.specs.Forms.{counterAt}
 use Rattle.grid_spec.specs.Grid.{sumOf, limit, withRows, countAnswer, countGrid}
 use Rattle.grid_spec.proofs.Tables.{refusal-keeps, counts-rows, judge-refuses, within, beyond}
-use Rattle.grid.proofs.RowForms.{accepted-listed}
 
 -- forms are read from the program and the execution table alone
 rows-alone : (grid : List ℕ) (q : Parts) → withRows grid (given (q .program) []) (tables (q .exec) []) ≡ withRows grid (givenOf q) (tablesOf q)

@@ -11,20 +11,17 @@ use lib.Dec.{eqb}
 use lib.ListN.{length, getD, set, length-set}
 use lib.Seq.{getD-set-same, getD-set-other}
 use Rattle.word.specs.Bytes.{wordAt}
-use Rattle.word.proofs.Tests.{is-true, from-true, by-equal}
+use Rattle.word.proofs.Tests.{from-true, by-equal}
 use Rattle.form.specs.Form.{decodeOf, wellFormed}
 use Rattle.form.specs.Instruction.{instructionAt}
 use Rattle.rows.specs.Rows.{execAt}
 use Rattle.rules.specs.Bus.{total}
-use Rattle.rules.specs.Sizes.{Parts, given, tables}
+use Rattle.rules.specs.Sizes.{given, tables}
 use Rattle.rules.proofs.Totals.{total-same, total-zero, total-split}
-use Rattle.answer.specs.declared.Answer.the-variants.{Accepted}
-use Rattle.judge_spec.specs.Judged.{judgeOf}
-use Rattle.judge_spec.proofs.Exactly.{accepted-satisfies}
 use Rattle.bus_tuples.specs.Ready.{Listed}
 use Rattle.grid_spec.specs.Forms.{counterOf, counterAt, rowsOf}
 use Rattle.grid_spec.specs.Grid.{sumOf, limit}
-use Rattle.grid_spec.proofs.Counts.{counter-few, rows-most, pc-in-program}
+use Rattle.grid_spec.proofs.Counts.{counter-few, rows-most}
 use Rattle.grid_spec.proofs.Listed.{at-most-sum}
 
 module _ (program exec : List ℕ) (r : ℕ) where
@@ -105,11 +102,3 @@ module _ (program exec : List ℕ) (r end : ℕ) (some : r < end) (same : SameTo
           let none : _≡_ {A = ℕ} (cond (eqb at k) (end - r) 0) 0 = rw (ne-eqb at k other) in
           getD-set-other counted at k (getD counted at 0 + (end - r)) 0 (λ e. other (sym e)) ∙ omega (arith, so-far .1 k h, rows-more k, none)),
     )
-
--- the rows of an accepted table are listed
-pub accepted-listed : (q : Parts) → judgeOf q ≡ Accepted → Listed (q .program) (q .exec)
-accepted-listed q e =
-    record {
-      formed = λ i h. is-true _ (accepted-satisfies q e .instructions i h);
-      inside = pc-in-program q e;
-    }

@@ -7,7 +7,7 @@ use Prim.Native.Nat.{ℕ, _+_, _*_, _/_, _%_, _≤_, _<_}
 use native.Mathlib.Omega.{arith}
 use lib.Dec.{eqb}
 use borrow.Author.Tests.{eqb-true}
-use Rattle.word.proofs.Tests.{by-test, by-order, is-true}
+use Rattle.word.proofs.Tests.{by-test, by-order}
 use Rattle.answer.specs.declared.Answer.the-variants.{Accepted}
 use Rattle.form.specs.Form.{decodeOf, wellFormed, operandOf}
 use Rattle.form.specs.declared.Instruction.{Instruction}
@@ -22,9 +22,8 @@ use Rattle.rules.specs.Sizes.{Parts, givenOf, tablesOf}
 use Rattle.rules.specs.Bus.{instructionOf}
 use Rattle.rules.proofs.Totals.{total-zero}
 use Rattle.judge_spec.specs.Judged.{judgeOf}
-use Rattle.judge_spec.proofs.Exactly.{accepted-satisfies}
+use Rattle.judge_spec.proofs.AcceptedRows.{row-formed}
 use Rattle.grid_spec.specs.Forms.{kindNumber, counter, counterOf, counterAt, rowsOf}
-use Rattle.grid_spec.proofs.Counts.{pc-in-program}
 use Rattle.grid_spec.proofs.OneForm.{form-numbers, mode-back}
 use Rattle.grid_spec.specs.Possible.{isCell, isFrame, plain, possible, kindAt, modeAt, possibleAt}
 
@@ -95,8 +94,7 @@ module _ (q : Parts) (accepted : judgeOf q ≡ Accepted) where
   pub row-possible : (r : ℕ) → r < tablesOf q .height → possibleAt (counterAt (givenOf q) (tablesOf q) r) ≡ true
   unfolding counterAt
   row-possible r h =
-      formed-possible (instructionOf (givenOf q) (tablesOf q) r)
-      (is-true _ (accepted-satisfies q accepted .instructions _ (pc-in-program q accepted r h)))
+      formed-possible (instructionOf (givenOf q) (tablesOf q) r) (row-formed q accepted r h)
 
   -- a counter that isn't possible counts none of its rows
   pub rows-possible : (k : ℕ) → possibleAt k ≡ false → (n : ℕ) → n ≤ tablesOf q .height → rowsOf (givenOf q) (tablesOf q) k n ≡ 0

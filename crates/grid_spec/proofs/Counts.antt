@@ -6,9 +6,9 @@ use mathlib.Core.Bool.{true, false, cond}
 use mathlib.Core.List.{List, [], _∷_}
 use Prim.Native.Nat.{ℕ, zero, suc, _+_, _*_, _/_, _≤_, _<_}
 use native.Mathlib.Omega.{arith}
-use lib.Dec.{T, eqb, ltb→lt}
+use lib.Dec.{T, eqb}
 use lib.ListN.{length, getD}
-use Rattle.word.proofs.Tests.{is-true, by-test}
+use Rattle.word.proofs.Tests.{from-true, by-test}
 use Rattle.form.specs.Form.{decodeOf, wellFormed}
 use Rattle.form.specs.declared.Instruction.{Instruction}
 use Rattle.form.specs.declared.Decoded.{Decoded}
@@ -21,11 +21,10 @@ use Rattle.form.specs.Form.{isWell}
 use Rattle.answer.specs.declared.Answer.the-variants.{Accepted}
 use Rattle.rules.specs.Given.{Given, Tables}
 use Rattle.rules.specs.Bus.{total, instructionOf}
-use Rattle.rules.specs.Execution.{execRules}
 use Rattle.rules.specs.Sizes.{Parts, givenOf, tablesOf}
 use Rattle.rules.proofs.Totals.{total-zero}
 use Rattle.judge_spec.specs.Judged.{judgeOf}
-use Rattle.judge_spec.proofs.Exactly.{accepted-satisfies}
+use Rattle.judge_spec.proofs.AcceptedRows.{row-formed}
 use Rattle.grid_spec.specs.Forms.{kindNumber, modeNumber, counterOf, counterAt, rowsOf}
 use Rattle.grid_spec.specs.Grid.{sumOf, withRows}
 use Rattle.grid_spec.proofs.Listed.{listed, listed-length, listed-at, listed-sum, is-listed, sum-total, total-add, total-one}
@@ -87,13 +86,9 @@ module _ (g : Given) (t : Tables) where
     unfolding withRows
     counted-sum e few = sum-listed 135 (t .height) grid e few
 
--- in an accepted table every row's pc is in the program, so every row has a counter
+-- in an accepted table every row's instruction is well-formed, so every row has a counter
 module _ (q : Parts) (e : judgeOf q ≡ Accepted) (r : ℕ) (h : r < tablesOf q .height) where
-  pub pc-in-program : tablesOf q .exec r .pc < givenOf q .count
-  unfolding execRules
-  pc-in-program = ltb→lt _ _ (accepted-satisfies q e .constraints .execution r h .0)
-
   pub accepted-few : counterAt (givenOf q) (tablesOf q) r < 135
   unfolding counterAt
   accepted-few =
-      counter-few (decodeOf (instructionOf (givenOf q) (tablesOf q) r)) (accepted-satisfies q e .instructions _ pc-in-program)
+      counter-few (decodeOf (instructionOf (givenOf q) (tablesOf q) r)) (from-true _ (row-formed q e r h))

@@ -14,4 +14,5 @@ pub mod Justified
 pub mod Narrow
 pub mod Only
 pub mod Exactly
+pub mod AcceptedRows
 pub mod Showing

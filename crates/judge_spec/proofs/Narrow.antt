@@ -14,7 +14,7 @@ use Rattle.rows.specs.declared.Ext.{Ext}
 use Rattle.answer.specs.Verdicts.{six, numbersOf}
 use Rattle.answer.specs.declared.Numbers.{Numbers}
 use Rattle.answer.specs.declared.Answer.{Answer}
-use Rattle.answer.specs.declared.Answer.the-variants.{Accepted, Size, Word, Instruction as Malformed, Start, Exec as ExecRefused, Extension, Bus, Label, Stuck, Room, Open, Buffer, Grid, Edition, Listing, Short, Host}
+use Rattle.answer.specs.declared.Answer.the-variants.{Accepted, Size, Word, Instruction as Malformed, Start, Exec as ExecRefused, Extension, Bus, Label, Stuck, Room, Open, Buffer, Grid, Edition, Listing, Short, Host, ListShort}
 use Rattle.rules.specs.Given.{Given, Rule, rule}
 use Rattle.rules.specs.Execution.{execRules}
 use Rattle.rules.specs.Extension.{extRules}
@@ -131,6 +131,7 @@ module _ (q : Parts) where
   says-narrow (Listing place) x = absurd x
   says-narrow (Short place) x = absurd x
   says-narrow Host x = absurd x
+  says-narrow (ListShort place) x = absurd x
 
   pub answer-narrow : Narrow (numbersOf (judgeOf q))
   answer-narrow = says-narrow (judgeOf q) (justified q)

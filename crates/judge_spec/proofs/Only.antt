@@ -7,7 +7,7 @@ use Prim.Native.Nat.{ℕ, zero, suc, _<_}
 use native.Mathlib.Omega.{arith}
 use lib.Dec.{T}
 use Rattle.answer.specs.declared.Answer.{Answer}
-use Rattle.answer.specs.declared.Answer.the-variants.{Accepted, Size, Word, Instruction, Start, Exec as ExecRefused, Extension, Bus, Label, Stuck, Room, Open, Buffer, Grid, Edition, Listing, Short, Host}
+use Rattle.answer.specs.declared.Answer.the-variants.{Accepted, Size, Word, Instruction, Start, Exec as ExecRefused, Extension, Bus, Label, Stuck, Room, Open, Buffer, Grid, Edition, Listing, Short, Host, ListShort}
 use Rattle.rules.specs.Given.{Given, Tables, Rule}
 use Rattle.rules.specs.Lookups.{Lookup, execLookups, extLookups, foundUnder}
 use Rattle.rules.specs.Bus.{pulled}
@@ -145,3 +145,4 @@ module _ (q : Parts) where
   only (Listing place) x = absurd x
   only (Short place) x = absurd x
   only Host x = absurd x
+  only (ListShort place) x = absurd x

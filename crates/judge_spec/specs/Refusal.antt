@@ -11,7 +11,7 @@ use lib.Dec.{T}
 use Rattle.word.specs.Word.{p, IsWord}
 use Rattle.form.specs.Form.{wellFormed}
 use Rattle.answer.specs.declared.Answer.{Answer}
-use Rattle.answer.specs.declared.Answer.the-variants.{Accepted, Size, Word, Instruction, Start, Exec as ExecRefused, Extension, Bus, Label, Stuck, Room, Open, Buffer, Grid, Edition, Listing, Short, Host}
+use Rattle.answer.specs.declared.Answer.the-variants.{Accepted, Size, Word, Instruction, Start, Exec as ExecRefused, Extension, Bus, Label, Stuck, Room, Open, Buffer, Grid, Edition, Listing, Short, Host, ListShort}
 use Rattle.rules.specs.Given.{Given, Tables, Rule, rule}
 use Rattle.rules.specs.Lookups.{Lookup, execLookups, extLookups}
 use Rattle.rules.specs.Bus.{Tuple, pushes, pulled, pulls, pushedTo, pulledTo, instructionOf}
@@ -168,7 +168,7 @@ module _ (q : Parts) where
     pub pulling : Pulls g t r
     pub bad : Equal g t (pulled (t .ext r)) → ⊥
 
-  -- what an answer of the judge says; the verdicts 8 to 15 are not the judge's
+  -- what an answer of the judge says; the verdicts from 8 on are not the judge's
   unfoldable pub Says : Answer → Type 0
   Says Accepted = Satisfies q
   Says (Size n place) = BadSize n place
@@ -188,3 +188,4 @@ module _ (q : Parts) where
   Says (Listing place) = ⊥
   Says (Short place) = ⊥
   Says Host = ⊥
+  Says (ListShort place) = ⊥

@@ -19,6 +19,11 @@ pub record Parts : Type 0 where
   pub pc : ℕ
   pub fp : ℕ
 
+-- the same, in the order in which a call hands them in
+abbrev pub partsOf : List ℕ → List ℕ → ℕ → ℕ → List ℕ → List ℕ → Parts
+partsOf program memory pc fp exec ext =
+    record { program = program; memory = memory; exec = exec; ext = ext; pc = pc; fp = fp }
+
 -- n is 2^k for some k from low to high
 abbrev pub isPower : ℕ → ℕ → ℕ → Bool
 isPower n low zero = leb low 0 && eqb n 1

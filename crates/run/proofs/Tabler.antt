@@ -27,6 +27,7 @@ use Rattle.answer.specs.declared.Answer.the-variants.{
   Listing,
   Short,
   Host,
+  ListShort,
 }
 use Rattle.machine.specs.Machine.{State}
 use Rattle.tables.specs.Rows.{stateAt}
@@ -122,6 +123,7 @@ module _ (i : Input) (exec ext : List ℕ) where
   kept (Listing place) old written h l = refl
   kept (Short place) old written h l = refl
   kept Host old written h l = refl
+  kept (ListShort place) old written h l = refl
 
   -- 9 to 11 leave zeros
   zeroed : (a : Answer) (old written : List ℕ) → 9 ≤ numbersOf a .verdict → numbersOf a .verdict ≤ 11 → heldAfter a old written ≡ replicate (length old) 0
@@ -143,6 +145,7 @@ module _ (i : Input) (exec ext : List ℕ) where
   zeroed (Listing place) old written h l = absurd (omega arith)
   zeroed (Short place) old written h l = absurd (omega arith)
   zeroed Host old written h l = absurd (omega arith)
+  zeroed (ListShort place) old written h l = absurd (omega arith)
 
   pub refusal-keeps : 1 ≤ numbersOf (answerFor i exec ext) .verdict → numbersOf (answerFor i exec ext) .verdict ≤ 4
       → (execLeft i exec ext ≡ exec) × (extLeft i exec ext ≡ ext)

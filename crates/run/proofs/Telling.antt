@@ -31,6 +31,7 @@ use Rattle.answer.specs.declared.Answer.the-variants.{
   Listing,
   Short,
   Host,
+  ListShort,
 }
 use Rattle.machine.specs.Machine.{State}
 use Rattle.rules.specs.Sizes.{Parts, given, tablesOf}
@@ -146,6 +147,7 @@ module _ (i : Input) (exec ext : List ℕ) where
   tells-only (Listing place) x = absurd x
   tells-only (Short place) x = absurd x
   tells-only Host x = absurd x
+  tells-only (ListShort place) x = absurd x
 
   -- the tabler gives an answer exactly where what it tells is so
   pub tells-exactly : (a : Answer) → (answerFor i exec ext ≡ a) ↔ Tells i exec ext a

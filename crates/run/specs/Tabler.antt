@@ -33,6 +33,7 @@ use Rattle.answer.specs.declared.Answer.the-variants.{
   Listing,
   Short,
   Host,
+  ListShort,
 }
 use Rattle.machine.specs.Machine.{Machine, State, value, legal}
 use Rattle.machine.specs.Extension.{elementAt, cellsExist, result, sameElement}
@@ -177,3 +178,4 @@ module _ (i : Input) (exec ext : List ℕ) where
   Tells (Listing place) = ⊥
   Tells (Short place) = ⊥
   Tells Host = ⊥
+  Tells (ListShort place) = ⊥

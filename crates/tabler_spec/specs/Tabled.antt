@@ -26,6 +26,7 @@ use Rattle.answer.specs.declared.Answer.the-variants.{
   Listing,
   Short,
   Host,
+  ListShort,
 }
 use Rattle.machine.specs.Machine.{Machine, State}
 use Rattle.machine.specs.Step.{Outcome, goes, stuck, step}
@@ -96,6 +97,7 @@ heldAfter (Edition place) old written = old
 heldAfter (Listing place) old written = old
 heldAfter (Short place) old written = old
 heldAfter Host old written = old
+heldAfter (ListShort place) old written = old
 
 abbrev pub execAfter : List ℕ → List ℕ → ℕ → ℕ → List ℕ → List ℕ → List ℕ
 execAfter program memory pc fp exec ext =

@@ -2,7 +2,8 @@
 use uisnabar_forms::count_call;
 use uisnabar_forms::report_call;
 ghost use mathlib.Core.Path.{_≡_};
-ghost use Rattle.uisnabar_forms.specs.CountCall.{partsOf, countReturned, countGridLeft, countAnswerLeft};
+ghost use Rattle.rules.specs.Sizes.{partsOf};
+ghost use Rattle.uisnabar_forms.specs.CountCall.{countReturned, countGridLeft, countAnswerLeft};
 ghost use Rattle.uisnabar_forms.specs.ReportCall.{reportReturned, reportTextLeft, reportWrittenLeft, reportAnswerLeft};
 
 // A table counted into a grid.

@@ -15,11 +15,6 @@ use Rattle.reply.specs.Reply.{answerBytes, verdictOf, answerWords}
 use Rattle.grid_spec.specs.Grid.{countAnswer, countGrid}
 use Rattle.grid_bytes.specs.GridBytes.{gridOf, gridBytes}
 
--- what a call hands in
-abbrev pub partsOf : List ℕ → List ℕ → ℕ → ℕ → List ℕ → List ℕ → Parts
-partsOf program memory pc fp exec ext =
-    record { program = program; memory = memory; exec = exec; ext = ext; pc = pc; fp = fp }
-
 module _ (q : Parts) (grid answer : List ℕ) where
   -- 1,080 bytes and 24
   abbrev pub countFits : Bool

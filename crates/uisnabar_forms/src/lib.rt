@@ -13,9 +13,10 @@ ghost use mathlib.Core.Bool.{cond, _&&_};
 ghost use lib.Dec.{eqb};
 ghost use lib.ListN.{length};
 ghost use Rattle.answer.specs.Verdicts.{accepted};
+ghost use Rattle.rules.specs.Sizes.{partsOf};
 ghost use Rattle.reply.specs.Reply.{answerBytes};
 ghost use Rattle.grid_bytes.specs.GridBytes.{gridBytes};
-ghost use Rattle.uisnabar_forms.specs.CountCall.{partsOf, countReturned, countGridLeft, countAnswerLeft};
+ghost use Rattle.uisnabar_forms.specs.CountCall.{countReturned, countGridLeft, countAnswerLeft};
 ghost use Rattle.uisnabar_forms.specs.ReportCall.{reportReturned, reportTextLeft, reportWrittenLeft, reportAnswerLeft};
 
 // Whether the buffers of fixed length have it.

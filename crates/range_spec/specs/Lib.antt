@@ -1,0 +1,3 @@
+pub mod RangeCheck
+pub mod Finds
+pub mod Finder
