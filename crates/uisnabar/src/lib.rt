@@ -1,8 +1,9 @@
-// The C library: the judge, form counts, programs from draft 0.5.0, listings, streams and the label reader, as
-// include/uisnabar.h declares them.
+// The C library: the judge, form counts, programs from draft 0.5.0, listings, streams, range checks and the label
+// reader, as include/uisnabar.h declares them.
 mod editions;
 mod forms;
 mod listings;
+mod ranges;
 mod streams;
 
 use answer::Answer;
@@ -14,6 +15,7 @@ use label::Recipe;
 use label::read_label;
 pub use listings::uisnabar_list;
 pub use listings::uisnabar_read_listing;
+pub use ranges::uisnabar_ranges;
 use reply::misfit;
 use reply::reply;
 pub use streams::uisnabar_host;

@@ -1,0 +1,4 @@
+pub mod Words
+pub mod Triples
+pub mod Places
+pub mod Ends
