@@ -1,6 +1,6 @@
 -- The instructions of three rows that are listed: each is there and well-formed; and the tests of them, by fewer words.
 -- Assumes nothing.
-use mathlib.Core.Path.{_≡_, refl, sym, ap, _∙_}
+use mathlib.Core.Path.{_≡_, sym, ap, _∙_}
 use mathlib.Core.Bool.{Bool, true, false, _&&_}
 use mathlib.Core.List.{List, []}
 use Prim.Native.Nat.{ℕ, _+_, _*_, _/_, _≤_, _<_}
@@ -15,7 +15,7 @@ use Rattle.form.specs.declared.Instruction.{Instruction}
 use Rattle.rows.specs.Rows.{execAt}
 use Rattle.rules.specs.Sizes.{given, tables}
 use Rattle.bus_tuples.specs.Ready.{Listed}
-use Rattle.range_spec.specs.Finds.{derefs, adds, checks, foundAt, boundAt}
+use Rattle.range_spec.specs.Finds.{derefs, adds, foundAt, boundAt}
 use Rattle.range.proofs.Words.{derefs-by-aux}
 
 module _ (program exec : List ℕ) where

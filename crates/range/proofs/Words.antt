@@ -1,6 +1,6 @@
 -- A well-formed instruction's kind is in AUX alone, and so are the finder's tests by fewer words.
 -- Assumes nothing.
-use mathlib.Core.Path.{_≡_, ap, _∙_}
+use mathlib.Core.Path.{_≡_, ap}
 use mathlib.Core.Bool.{Bool, true, _&&_}
 use Prim.Native.Nat.{ℕ}
 use lib.Dec.{eqb}

@@ -9,5 +9,5 @@ use Rattle.range_spec.specs.Finds.{boundAt}
 pub record Walkable (program exec : List ℕ) : Type 0 where
   pub listed : Listed program exec
   pub short : Short exec
-  pub rows : 2 ≤ length exec / 32
+  pub rows : 256 ≤ length exec / 32
   pub bounds : (r : ℕ) → r + 2 < length exec / 32 → boundAt (given program []) (tables exec []) r < 2 ^ 32

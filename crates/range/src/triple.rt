@@ -55,10 +55,10 @@ pub(crate) fn found_at(program: &[u8], exec: &[u8], r: usize) -> bool
         return false;
     }
     let second = start_of(exec, r + 1);
+    let x = word_inside(program, second);
+    let j = word_inside(program, second + 8);
     let last = start_of(exec, r + 2);
-    derefs(program, first, word_inside(program, second))
-        & adds(program, second)
-        & derefs(program, last, word_inside(program, second + 8))
+    derefs(program, first, x) & adds(program, second) & derefs(program, last, j)
 }
 
 // The ADD's B, plus 1.

@@ -2,11 +2,11 @@
 -- which is below p, is t - 1.
 -- Assumes nothing.
 use mathlib.Core.Path.{_≡_, refl, ap, subst, _∙_}
-use Prim.Native.Nat.{ℕ, suc, _+_, _-_, _≤_, _<_, _^_}
+use Prim.Native.Nat.{ℕ, _+_, _-_, _≤_, _<_, _^_}
 use native.Mathlib.Numerals.{add-one}
 use native.Mathlib.Omega.{arith}
 use lib.Dec.{T, ltb→lt}
-use Rattle.word.specs.Word.{p, IsWord, _+ₚ_}
+use Rattle.word.specs.Word.{p, _+ₚ_}
 use Rattle.word.proofs.WordLaws.{sum-zero}
 use Rattle.form.specs.declared.Form.{Form}
 use Rattle.form.specs.declared.Operand.{Operand}

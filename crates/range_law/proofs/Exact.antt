@@ -1,6 +1,6 @@
 -- Three well-formed instructions pass the finder's tests exactly where they are those of a range check.
 -- Assumes nothing.
-use mathlib.Core.Path.{_≡_, refl, sym, ap, _∙_}
+use mathlib.Core.Path.{_≡_, sym, ap, _∙_}
 use mathlib.Core.Bool.{true, _&&_, _||_}
 use mathlib.Core.List.{[], _∷_}
 use Prim.Native.Nat.{ℕ, _+_, _-_, _≤_}
@@ -17,8 +17,8 @@ use Rattle.form.specs.declared.Mode.the-variants.{Immediate, Cell, Frame}
 use Rattle.form.specs.declared.Operand.{Operand}
 use Rattle.form.specs.declared.Kind.the-variants.{Add, Deref}
 use Rattle.form.specs.declared.Decoded.the-variants.{Well}
-use Rattle.form.proofs.Forms.{Flags, opcode-of, plain-of, formed-of, decodes, form-tests}
-use Rattle.range_spec.specs.RangeCheck.{operand, derefOf, addOf}
+use Rattle.form.proofs.Forms.{opcode-of, plain-of, formed-of, decodes, form-tests}
+use Rattle.range_spec.specs.RangeCheck.{derefOf, addOf}
 use Rattle.range_spec.specs.Finds.{derefs, adds}
 
 -- the flags of an operand, by its mode

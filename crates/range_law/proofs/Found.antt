@@ -1,13 +1,12 @@
 -- In an accepted table the finder's tests find the range checks, each with its bound, and nothing else.
 -- Assumes nothing.
-use mathlib.Core.Path.{_≡_, refl, sym, ap, subst, _∙_}
+use mathlib.Core.Path.{_≡_, ap, _∙_}
 use mathlib.Core.Bool.{true}
 use mathlib.Core.List.{[], _∷_}
 use Prim.Native.Nat.{ℕ, _+_, _-_, _<_, _^_}
 use native.Mathlib.Omega.{arith}
 use Rattle.word.proofs.Tests.{each}
 use Rattle.form.specs.declared.Instruction.{Instruction}
-use Rattle.form.specs.Form.{decodeOf}
 use Rattle.form.specs.declared.Decoded.the-variants.{Well}
 use Rattle.answer.specs.declared.Answer.the-variants.{Accepted}
 use Rattle.rules.specs.Bus.{instructionOf}
@@ -16,7 +15,7 @@ use Rattle.judge_spec.specs.Judged.{judgeOf}
 use Rattle.judge_spec.proofs.Exactly.{accepted-satisfies}
 use Rattle.judge_spec.proofs.AcceptedRows.{pc-in-program, row-formed}
 use Rattle.run.proofs.Words.{fit}
-use Rattle.range_spec.specs.RangeCheck.{RangeCheck, derefOf, addOf}
+use Rattle.range_spec.specs.RangeCheck.{addOf}
 use Rattle.range_spec.specs.Finds.{derefs, adds, foundAt, boundAt}
 use Rattle.range_law.specs.Ranges.{IsRangeCheck}
 use Rattle.range_law.proofs.Exact.{derefs-form, form-derefs, adds-form, form-adds}

@@ -1,28 +1,20 @@
 -- The finds of an accepted table, as they stand in a buffer: every range check, in row order, and nothing else.
 -- Assumes nothing.
-use mathlib.Core.Path.{_≡_, refl, sym, ap, subst, _∙_}
-use mathlib.Core.Bool.{Bool, true, false, cond}
+use mathlib.Core.Path.{_≡_, _∙_}
+use mathlib.Core.Bool.{true}
 use mathlib.Core.List.{List, _++_}
-use Prim.Native.Nat.{ℕ, _+_, _-_, _*_, _≤_, _<_, _^_}
+use Prim.Native.Nat.{ℕ, _+_, _-_, _*_, _<_}
 use native.Mathlib.Omega.{arith}
-use lib.Dec.{leb}
-use lib.ListN.{length, getD, drop, length-append, length-drop}
-use borrow.Author.Tests.{leb-true, leb-false, le-leb, lt-leb}
-use Rattle.word.proofs.Tests.{cases, by-test, by-order}
-use Rattle.answer.specs.Verdicts.{accepted}
-use Rattle.answer.specs.declared.Answer.{Answer}
-use Rattle.answer.specs.declared.Answer.the-variants.{Accepted, ListShort}
-use Rattle.answer.proofs.Named.{accepted-is}
+use lib.ListN.{length}
+use Rattle.word.proofs.Tests.{by-order}
+use Rattle.answer.specs.declared.Answer.the-variants.{Accepted}
 use Rattle.rules.specs.Given.{Given, Tables}
 use Rattle.rules.specs.Sizes.{Parts, givenOf, tablesOf}
 use Rattle.judge_spec.specs.Judged.{judgeOf}
 use Rattle.judge_spec.proofs.Exactly.{accepted-satisfies}
 use Rattle.judge_spec.proofs.Lengths.{whole}
-use Rattle.range_spec.specs.RangeCheck.{RangeCheck}
 use Rattle.range_spec.specs.Finds.{foundAt, boundAt, numberBelow, firstRows, allFinds, findsNumber}
-use Rattle.range_spec.specs.Finder.{findsIn, rangesAnswer, rangesFound, findsLeft}
-use Rattle.range_law.specs.Ranges.{Bounded, IsRangeCheck, rowIn, boundIn, Lists, Ranges}
-use Rattle.range_law.proofs.Below.{bounded, same-frame}
+use Rattle.range_law.specs.Ranges.{IsRangeCheck, rowIn, boundIn, Lists}
 use Rattle.range_law.proofs.Found.{found-check, check-found, bound-small}
 use Rattle.range_law.proofs.Written.{eight-each, number-grows, number-next, stands, place}
 

@@ -1,18 +1,18 @@
 -- Where the finds of some rows stand: that of row r at as many finds as there are before it, and each place below their
 -- number is a row's. Over any test of rows and any bounds.
 -- Assumes nothing.
-use mathlib.Core.Path.{_≡_, refl, sym, ap, _∙_}
-use mathlib.Core.Bool.{Bool, true, false, cond}
+use mathlib.Core.Path.{_≡_, refl, ap, _∙_}
+use mathlib.Core.Bool.{Bool, true, cond}
 use mathlib.Core.List.{List, [], _∷_, _++_, append-assoc}
 use Prim.Native.Nat.{ℕ, zero, suc, _+_, _-_, _*_, _≤_, _<_, _^_}
 use native.Mathlib.Nat.{add-assoc, add-zero}
 use native.Mathlib.Omega.{arith}
-use lib.ListN.{length, getD, drop, length-append}
+use lib.ListN.{length, getD, length-append}
 use lib.Seq.{getD-append-add}
-use Rattle.word.specs.Bytes.{wordAt, bytesOf, concatenated}
+use Rattle.word.specs.Bytes.{wordAt, concatenated}
 use Rattle.word.proofs.Concatenated.{parts-append, parts-one}
 use Rattle.word.proofs.FourBytes.{read-bytes}
-use Rattle.word.proofs.Tests.{cases, by-order, by-test}
+use Rattle.word.proofs.Tests.{cases, by-order}
 use Rattle.rows.specs.Rows.{bytesOfWords}
 use Rattle.rules.specs.Bus.{total}
 use Rattle.rules.proofs.Totals.{one-more, total-split}

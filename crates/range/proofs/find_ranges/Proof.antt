@@ -2,7 +2,6 @@
 use borrow.Author.Needs.{needs}
 use borrow.Author.Tests.{not-true, not-false}
 use mathlib.Core.Path.{sym, _∙_}
-use native.Mathlib.Omega.{arith}
 use Rattle.rules.specs.Sizes.{Parts, partsOf}
 use Rattle.range.proofs.Ends.{refused, ready, short, room, written}
 use Rattle.range.proofs.find_ranges.Statement.{statement}

@@ -2,7 +2,7 @@
 use borrow.Author.Needs.{needs}
 use borrow.Author.Tests.{not-true, not-false}
 use mathlib.Core.Path.{sym, ap, _∙_}
-use Rattle.uisnabar_forms.specs.CountCall.{partsOf}
+use Rattle.rules.specs.Sizes.{partsOf}
 use Rattle.uisnabar_forms.proofs.CountEnds.{unfit-call, grid-whole, told-call}
 use Rattle.uisnabar_forms.proofs.count_call.Statement.{statement}
 use Rattle.uisnabar_forms.proofs.count_call.Tie as tie

@@ -1,6 +1,6 @@
 -- The second row's instruction is there, and its B is word 1.
 use borrow.Author.Needs.{needs}
-use mathlib.Core.Path.{_≡_, ap, _∙_}
+use mathlib.Core.Path.{ap, _∙_}
 use native.Mathlib.Omega.{arith}
 use Prim.Native.Nat.{ℕ, _+_}
 use Rattle.range.proofs.Triples.{there, bound-read}

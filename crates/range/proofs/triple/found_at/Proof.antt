@@ -1,6 +1,6 @@
 -- Each of the three instructions is there and well-formed; where the first has another AUX there is no find.
 use borrow.Author.Needs.{needs}
-use mathlib.Core.Path.{_≡_, sym, ap, _∙_}
+use mathlib.Core.Path.{ap, _∙_}
 use native.Mathlib.Omega.{arith}
 use Prim.Native.Nat.{ℕ, _+_}
 use Rattle.form.specs.Instruction.{instructionAt}
@@ -22,41 +22,43 @@ returns c =
 
 word-inside-requires-2 : tie.Need-word-inside-requires-2
 word-inside-requires-2 c κs =
+    let s = c .before .before .before .before .before .before in
+    omega (arith, there (s .args .program .now) (s .args .exec .now) (s .pre .0) (s .args .r + 1) _ (omega arith) (c .start-of2 .ensures .0) .0)
+
+word-inside-requires-3 : tie.Need-word-inside-requires-3
+word-inside-requires-3 c κs =
     let s = c .before .before .before .before .before .before .before in
     omega (arith, there (s .args .program .now) (s .args .exec .now) (s .pre .0) (s .args .r + 1) _ (omega arith) (c .before .start-of2 .ensures .0) .0)
 
 derefs-requires : tie.Need-derefs-requires
 derefs-requires c κs =
-    let s = c .before .before .before .before .before .before .before .before in
-    there (s .args .program .now) (s .args .exec .now) (s .pre .0) (s .args .r) _ (omega arith) (c .before .before .before .before .before .start-of .ensures .0)
+    let s = c .before .before .before .before .before .before .before .before .before in
+    there (s .args .program .now) (s .args .exec .now) (s .pre .0) (s .args .r) _ (omega arith) (c .before .before .before .before .before .before .start-of .ensures .0)
 
 adds-requires : tie.Need-adds-requires
 adds-requires c κs =
-    let s = c .before .before .before .before .before .before .before .before .before in
-    there (s .args .program .now) (s .args .exec .now) (s .pre .0) (s .args .r + 1) _ (omega arith) (c .before .before .before .start-of2 .ensures .0)
-
-word-inside-requires-3 : tie.Need-word-inside-requires-3
-word-inside-requires-3 c κs =
     let s = c .before .before .before .before .before .before .before .before .before .before in
-    omega (arith, there (s .args .program .now) (s .args .exec .now) (s .pre .0) (s .args .r + 1) _ (omega arith) (c .before .before .before .before .start-of2 .ensures .0) .0)
+    there (s .args .program .now) (s .args .exec .now) (s .pre .0) (s .args .r + 1) _ (omega arith) (c .before .before .before .before .start-of2 .ensures .0)
 
 derefs-requires-2 : tie.Need-derefs-requires-2
 derefs-requires-2 c κs =
     let s = c .before .before .before .before .before .before .before .before .before .before .before in
-    there (s .args .program .now) (s .args .exec .now) (s .pre .0) (s .args .r + 2) _ (s .pre .1) (c .before .before .before .before .start-of3 .ensures .0)
+    there (s .args .program .now) (s .args .exec .now) (s .pre .0) (s .args .r + 2) _ (s .pre .1) (c .before .before .start-of3 .ensures .0)
 
 returns-2 : tie.Need-returns-2
 unfolding instructionAt
 returns-2 c =
     let s = c .before .before .before .before .before .before .before .before .before .before .before .before in
     let program = s .args .program .now in
-    let a = c .before .before .before .before .before .before .before .before .before .start-of in
-    let b = c .before .before .before .before .before .before .start-of2 in
-    let d = c .before .before .before .before .before .start-of3 in
-    three-tests program (s .args .exec .now) (s .args .r) (a .ensures .0) (b .ensures .0) (d .ensures .0)
-    (c .before .before .before .derefs .ensures ∙ ap (λ (x : ℕ). derefs x (instructionAt program (a .result))) (c .before .before .before .before .word-inside2 .ensures))
-    (c .before .before .adds .ensures)
-    (c .derefs2 .ensures ∙ ap (λ (x : ℕ). derefs x (instructionAt program (d .result))) (c .before .word-inside3 .ensures))
+    let first = c .before .before .before .before .before .before .before .before .before .start-of in
+    let second = c .before .before .before .before .before .before .start-of2 in
+    let last = c .before .before .before .start-of3 in
+    let x = c .before .before .before .before .before .word-inside2 in
+    let j = c .before .before .before .before .word-inside3 in
+    three-tests program (s .args .exec .now) (s .args .r) (first .ensures .0) (second .ensures .0) (last .ensures .0)
+    (c .before .before .derefs .ensures ∙ ap (λ (x : ℕ). derefs x (instructionAt program (first .result))) (x .ensures))
+    (c .before .adds .ensures)
+    (c .derefs2 .ensures ∙ ap (λ (x : ℕ). derefs x (instructionAt program (last .result))) (j .ensures))
 
 pub found-at-spec : {M : Type 1} → statement M
 found-at-spec =
@@ -68,12 +70,12 @@ found-at-spec =
     returns
     (λ c. search needs)
     (λ c κs. search needs)
-    (λ c. search needs)
-    (λ c κs. search needs)
     word-inside-requires-2
-    derefs-requires
-    adds-requires
     (λ c. search needs)
     word-inside-requires-3
+    (λ c. search needs)
+    (λ c κs. search needs)
+    derefs-requires
+    adds-requires
     derefs-requires-2
     returns-2)

@@ -1,7 +1,6 @@
 -- The first word of a row is its pc.
 use borrow.Author.Needs.{needs}
 use mathlib.Core.Path.{ap}
-use native.Mathlib.Omega.{arith}
 use Prim.Native.Nat.{ℕ, _*_}
 use Rattle.rows.specs.Rows.{execAt}
 use Rattle.range.proofs.triple.start_of.Statement.{statement}

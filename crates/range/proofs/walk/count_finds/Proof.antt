@@ -1,11 +1,11 @@
 -- The invariant: n is the number of finds of the first r rows. The measure is the rows left.
 use borrow.Author.Needs.{needs}
-use mathlib.Core.Path.{_≡_, refl, sym, ap, _∙_}
+use mathlib.Core.Path.{_≡_, refl}
 use mathlib.Core.Bool.{cond}
 use mathlib.Core.List.{[]}
 use mathlib.Core.Logic.{⊎-elim}
 use native.Mathlib.Omega.{arith}
-use Prim.Native.Nat.{ℕ, _+_, _-_, _/_, _≤_}
+use Prim.Native.Nat.{ℕ, _-_, _/_, _≤_}
 use lib.ListN.{length}
 use Rattle.rules.specs.Sizes.{given, tables}
 use Rattle.rules.proofs.Totals.{one-more}
@@ -24,7 +24,7 @@ abbrev μ-loop : tie.MeasureT-loop
 
 -- src/walk.rt:20:16
 sub-rows : tie.Need-sub-rows Inv-loop μ-loop
-sub-rows c = c .before .before .pre .rows
+sub-rows c = let many = c .before .before .pre .rows in omega arith
 
 -- src/walk.rt:23:5
 loop-holds : tie.Need-loop-holds Inv-loop μ-loop

@@ -1,9 +1,9 @@
 -- The invariant: the finds of the first r rows stand at the start. The measure is the rows left.
 use borrow.Author.Needs.{needs}
-use mathlib.Core.Path.{_≡_, refl, sym, ap, _∙_}
+use mathlib.Core.Path.{_≡_, refl, ap, _∙_}
 use mathlib.Core.List.{[], _++_}
 use native.Mathlib.Omega.{arith}
-use Prim.Native.Nat.{ℕ, _+_, _-_, _*_, _/_, _≤_}
+use Prim.Native.Nat.{ℕ, _+_, _-_, _/_, _≤_}
 use lib.ListN.{length, drop}
 use Rattle.word.specs.Bytes.{concatenated}
 use Rattle.word.proofs.Concatenated.{parts-one}
@@ -66,7 +66,7 @@ put-finds-spec =
     (tie.spec
     Inv-loop
     μ-loop
-    (λ c. c .before .before .before .pre .0 .rows)
+    (λ c. let many = c .before .before .before .pre .0 .rows in omega arith)
     loop-holds
     put-row-requires
     (λ c. search needs)
