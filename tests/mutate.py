@@ -1,5 +1,5 @@
 """Edits of a definition that its theorems must refuse: the edited crate is still proved, and `run`, for listings `listing_law`, for streams
-`stream_law`, for what is made `maker_run`, or a crate of theorems below it, is not.
+`stream_law`, for what is made `maker_run`, for range checks `range_law`, or a crate of theorems below it, is not.
 
   mutate.py            tries every edit
   mutate.py CRATE..    tries the edits of the crates named, as tabler_spec
@@ -19,6 +19,7 @@ TABLED = "crates/tabler_spec/specs/Tabled.antt"
 LISTING = "crates/listing_spec/specs/Listing.antt"
 STREAM = "crates/stream_spec/specs/"
 MADE = "crates/maker_spec/specs/Made.antt"
+RANGE = "crates/range_spec/specs/"
 ROOM = r"&& leb \(filled m state \(suc r\) \+ 1\) extHeight$"
 
 # name, file, what stands there (a line's start, or a piece of it), what is put there
@@ -91,10 +92,23 @@ EDITS = [
     ("an offset that isn't taken minus fp", MADE, r"(mul = 1; .*) b = slot i -ₚ fp", r"\1 b = slot i"),
     ("an untaken jump that changes the frame", MADE, r"^jumpTaken c = .*$", "jumpTaken c = eqb (c % 2) 0"),
     ("a jump whose new frame isn't stored", MADE, r"^jumpCells frames a = .*$", "jumpCells frames a = []"),
+    ("a range check of another β", RANGE + "RangeCheck.antt", r"b = operand Immediate 0;", "b = operand Immediate x;"),
+    ("a range check to immediate t", RANGE + "RangeCheck.antt", r"\(addOf x j \(bound - 1\)\)", "(addOf x j bound)"),
+    ("β not tested", RANGE + "Finds.antt", r" && eqb \(i \.b\) 0$", ""),
+    ("A and C exchanged in the ADD", RANGE + "Finds.antt", r"\(second \.a\) first (.*) \(second \.c\) last$", r"(second .c) first \1 (second .a) last"),
+    ("an ADD to a cell", RANGE + "Finds.antt", r" && eqb \(i \.fb\) 1", ""),
+    ("an ADD of an immediate C", RANGE + "Finds.antt", r" && eqb \(i \.fc\) 0", ""),
+    ("the row of the last", RANGE + "Finds.antt", r"\(r ∷ boundAt g t r ∷ \[\]\)", "(r + 2 ∷ boundAt g t r ∷ [])"),
+    ("t = B", RANGE + "Finds.antt", r"instructionOf g t \(r \+ 1\) \.b \+ 1$", "instructionOf g t (r + 1) .b"),
+    ("one find too few at the table's end", RANGE + "Finds.antt", r"^firstRows t = .*$", "firstRows t = t .height - 3"),
+    ("LIST before the judge's refusals", RANGE + "Finder.antt", r"cond \(accepted .*\)\) \(judgeOf q\)$", "cond (leb (8 * findsIn q) room) (judgeOf q) (ListShort (findsIn q))"),
+    ("LIST's place in bytes", RANGE + "Finder.antt", r"\(ListShort \(findsIn q\)\)", "(ListShort (8 * findsIn q))"),
+    ("a refusal that gives a number", RANGE + "Finder.antt", r"\(findsIn q\) 0$", "(findsIn q) (findsIn q)"),
+    ("bytes after the last find moved up", RANGE + "Finder.antt", r"drop \(8 \* findsIn q\) finds", "drop (findsIn q) finds"),
 ]
 
 # the crate of theorems that must refuse an edit, by the crate that is edited; of the others it is run
-THEOREMS = {"listing_spec": "listing_law", "stream_spec": "stream_law", "maker_spec": "maker_run"}
+THEOREMS = {"listing_spec": "listing_law", "stream_spec": "stream_law", "maker_spec": "maker_run", "range_spec": "range_law"}
 
 # what an edit needs beside it
 EXTRA = {

@@ -8,15 +8,23 @@ ghost use Prim.Native.Nat.{_+_, _*_, _/_, _≤_, _<_, _^_};
 ghost use lib.ListN.{length, drop};
 ghost use Rattle.lines.specs.Line.{over};
 ghost use Rattle.rules.specs.Sizes.{given, tables};
-ghost use Rattle.range_spec.specs.Finds.{findBytes, allFinds, findsNumber};
+ghost use Rattle.range_spec.specs.Finds.{findBytes, firstRows, allFinds, findsNumber};
 ghost use Rattle.range.specs.Walkable.{Walkable};
+
+// Two rows follow the first.
+fn first_rows(exec: &[u8]) -> usize
+    requires { ⌜ 256 ≤ length (now exec) / 32 ⌝ }
+    ensures { λ n. ⌜ n ≡ firstRows (tables (now (exec .entry)) []) ⌝ }
+{
+    exec.len() / 32 - 2
+}
 
 // How many finds there are.
 pub(crate) fn count_finds(program: &[u8], exec: &[u8]) -> usize
     requires { ⌜ Walkable (now program) (now exec) ⌝ }
     ensures { λ n. ⌜ (n ≡ findsNumber (given (now (program .entry)) []) (tables (now (exec .entry)) [])) × (n < 2 ^ 32) ⌝ }
 {
-    let rows = exec.len() / 32 - 2;
+    let rows = first_rows(exec);
     let mut n = 0;
     let mut r = 0;
     while r < rows {
@@ -56,7 +64,7 @@ pub(crate) fn put_finds(program: &[u8], exec: &[u8], finds: &mut [u8])
         ++ drop (8 * findsNumber (given (now (program .entry)) []) (tables (now (exec .entry)) [])) (now (finds .entry))
         ⌝ }
 {
-    let rows = exec.len() / 32 - 2;
+    let rows = first_rows(exec);
     let mut at = 0;
     let mut r = 0;
     while r < rows {

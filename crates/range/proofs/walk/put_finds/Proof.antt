@@ -28,7 +28,7 @@ loop-holds c = (omega arith, refl, (refl, refl))
 
 put-row-requires : tie.Need-put-row-requires Inv-loop μ-loop
 put-row-requires c κs =
-    let s = c .before .before .before .before .before .before in
+    let s = c .before .before .before .before .before .before .before in
     let l = c .before .before .loop in
     let g = given (s .args .program .now) [] in
     let t = tables (s .args .exec .now) [] in
@@ -36,7 +36,7 @@ put-row-requires c κs =
 
 loop-again : tie.Need-loop-again Inv-loop μ-loop
 loop-again c =
-    let s = c .before .before .before .before .before .before .before .before .before in
+    let s = c .before .before .before .before .before .before .before .before .before .before in
     let l = c .before .before .before .before .before .loop in
     let g = given (s .args .program .now) [] in
     let t = tables (s .args .exec .now) [] in (
@@ -53,7 +53,7 @@ returns : tie.Need-returns Inv-loop μ-loop
 unfolding allFinds
 returns c =
     let l = c .before .loop in
-    let s = c .before .before .before .before .before in
+    let s = c .before .before .before .before .before .before in
     let g = given (s .args .program .now) [] in
     let t = tables (s .args .exec .now) [] in
     let e : l .r ≡ length (s .args .exec .now) / 32 - 2 = omega arith in
@@ -66,7 +66,7 @@ put-finds-spec =
     (tie.spec
     Inv-loop
     μ-loop
-    (λ c. let many = c .before .before .before .pre .0 .rows in omega arith)
+    (λ c κs. c .before .before .before .pre .0 .rows)
     loop-holds
     put-row-requires
     (λ c. search needs)

@@ -19,9 +19,6 @@ returns c =
     nothing-put (given (s .args .program .now) []) (tables (s .args .exec .now) []) (s .args .r) (s .args .finds .now) (s .args .at)
     (sym (c .before .found-at .ensures) ∙ not-true _ (c .if1 .taken))
 
-cast-put-word : tie.Need-cast-put-word
-cast-put-word c = let short = c .before .before .before .before .before .before .pre .0 .short in search needs
-
 bound-at-requires : tie.Need-bound-at-requires
 bound-at-requires c κs =
     let s = c .before .before .before .before .before .before .before .before .before .before in
@@ -42,7 +39,7 @@ put-row-spec =
     (tie.spec
     found-at-requires
     returns
-    cast-put-word
+    (λ c. let short = c .before .before .before .before .before .before .pre .0 .short in search needs)
     (λ c κs. search needs)
     (λ c. search needs)
     bound-at-requires
