@@ -44,6 +44,7 @@ int written(void);
 int judge(int count, char **words);
 int count_forms(int count, char **words);
 int report_forms(int count, char **words);
+int ranges(int count, char **words);
 int translate(int count, char **words);
 int list(int count, char **words);
 int assemble(int count, char **words);
@@ -59,7 +60,8 @@ int take_seed(const char *text, uint64_t *found);
 #define TABLES "PROGRAM MEMORY EXEC EXT, or TABLES alone"
 struct request {
     const char *name, *takes; /* the subcommand, and its files as a sentence names them */
-    int grids;                /* how many files stand before the tables: count's grid, and then there is no --paste */
+    int grids;                /* how many files stand before the tables: count's grid */
+    bool pastes;              /* it has the option --paste */
     const char *files[PARTS];
     int count;
     bool paste;
@@ -134,6 +136,7 @@ void judge_sentence(FILE *out, const struct given *given, struct answer answer);
 void count_sentence(FILE *out, const struct given *given, struct answer answer,
                     const uint8_t grid[UISNABAR_GRID_BYTES]);
 void report_sentence(FILE *out, const uint8_t grid[UISNABAR_GRID_BYTES]);
+void ranges_sentence(FILE *out, const struct given *given, struct answer answer, size_t found);
 void label_sentence(FILE *out, struct bytes text, struct answer answer, const uint8_t *recipe);
 
 /* edition.c: the same of a translation; where an instruction is refused, its words on a line more */

@@ -13,7 +13,7 @@ static struct answer ask(const struct given *given)
 
 int judge(int count, char **words)
 {
-    struct request request = {.name = "judge", .takes = TABLES};
+    struct request request = {.name = "judge", .takes = TABLES, .pastes = true};
     char sums[PARTS][SUM_DIGITS + 1];
     int status = take_tables(count, words, &request);
     /* sums before the judge: what is missing is said at once */

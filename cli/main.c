@@ -16,6 +16,8 @@ static const char help[] =
     "       uisnabar count GRID [--pc N] [--fp N] PROGRAM MEMORY EXEC EXT\n"
     "       uisnabar count GRID [--pc N] [--fp N] TABLES\n"
     "       uisnabar report GRID\n"
+    "       uisnabar ranges [--pc N] [--fp N] PROGRAM MEMORY EXEC EXT\n"
+    "       uisnabar ranges [--pc N] [--fp N] TABLES\n"
     "       uisnabar translate OLD NEW\n"
     "       uisnabar list PROGRAM\n"
     "       uisnabar assemble LISTING PROGRAM\n"
@@ -35,6 +37,10 @@ static const char help[] =
     "        grid wait for one another, and .GRID.counting stands beside it meanwhile; the next takes over a killed one's.\n"
     "report  The counters of GRID that are not 0, a line each, as add.cell.imm.fp=12: kind, and mode of A, B and C. On\n"
     "        standard error how many of the 50 possible forms were reached, and a line for each that was not.\n"
+    "ranges  Judges as judge does. Where it accepts, a line for each range check (draft 0.6.0, 2.6.3), by rows, as\n"
+    "        row=12 cell=34 bound=256 value=7: from row 12 on three rows hold cell 34 below 256, and it holds 7. Where the\n"
+    "        tables are refused, standard output has nothing, and the answer's lines stand on standard error, before the\n"
+    "        sentence. With status 2 it may have a part of the lines.\n"
     "translate\n"
     "        OLD is a program of draft 0.5.0, 14 words an instruction in the order of its 3.1.3. NEW becomes that program in\n"
     "        the form of draft 0.6.0, a PROGRAM for judge: from every state the two take the same step, or are stuck alike. NEW\n"
@@ -57,11 +63,11 @@ static const char help[] =
     "label   Is the text a label, of version 1 or 2? The sentence has its version, seed, m and n, or what the first line that\n"
     "        does not fit must be. Without FILE it is read from standard input.\n"
     "\n"
-    "Standard output has the answer's six lines, as the replay program prints them, or the report, the listing or the seed;\n"
-    "standard error one sentence that says what they mean. Where a lookup is refused, expected= is the word that the\n"
-    "memory's cell holds and found= the word that the table's column has, and the sentence names the cell and the column.\n"
-    "Both are 0 where a cell that is looked up is not below M, the number of cells, which the sentence says too; and of\n"
-    "every other answer.\n"
+    "Standard output has the answer's six lines, as the replay program prints them, or the report, the range checks, the\n"
+    "listing or the seed; standard error one sentence that says what they mean. Where a lookup is refused, expected= is the\n"
+    "word that the memory's cell holds and found= the word that the table's column has, and the sentence names the cell and\n"
+    "the column. Both are 0 where a cell that is looked up is not below M, the number of cells, which the sentence says\n"
+    "too; and of every other answer.\n"
     "Tables, OLD, PROGRAM and LISTING are mapped, not copied: they must not change while they are read. A file that\n"
     "becomes shorter is noticed.\n"
     "Exit status: 0 accepted, 1 refused, 2 usage, or something could not be read or written.\n";
@@ -70,9 +76,9 @@ static const char help[] =
 static const struct {
     const char *name;
     int (*run)(int count, char **words);
-} commands[] = {{"judge", judge}, {"count", count_forms}, {"report", report_forms}, {"translate", translate},
-                {"list", list},   {"assemble", assemble}, {"host", host},           {"jump", jump},
-                {"label", label}};
+} commands[] = {{"judge", judge},         {"count", count_forms}, {"report", report_forms}, {"ranges", ranges},
+                {"translate", translate}, {"list", list},         {"assemble", assemble},   {"host", host},
+                {"jump", jump},           {"label", label}};
 enum { COMMANDS = sizeof commands / sizeof commands[0] };
 
 int failed(const char *format, ...)

@@ -137,6 +137,18 @@ void report_sentence(FILE *out, const uint8_t grid[UISNABAR_GRID_BYTES])
     fputc('\n', out);
 }
 
+/* LIST is for whoever lends a shorter buffer: the command's own is always long enough */
+void ranges_sentence(FILE *out, const struct given *given, struct answer answer, size_t found)
+{
+    if (answer.verdict == UISNABAR_ACCEPTED)
+        fprintf(out, "ACCEPTED: range checks found in %zu rows: %zu\n", rows_of(given, EXEC), found);
+    else if (answer.verdict == UISNABAR_LIST)
+        fprintf(out, "LIST: the buffer for the finds is too short: there are %u, which need %zu bytes\n", answer.place,
+                UISNABAR_FIND_BYTES * (size_t)answer.place);
+    else
+        judge_sentence(out, given, answer);
+}
+
 /* what each line of a label must be */
 static const char *const label_lines[] = {
     "v=1 or v=2 (versions 1 and 2 are known)",

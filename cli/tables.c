@@ -1,4 +1,4 @@
-/* The tables that judge and count are handed: four files, or the one that the table program writes. */
+/* The tables that judge, count and ranges are handed: four files, or the one that the table program writes. */
 #include <string.h>
 
 #include "cli.h"
@@ -26,7 +26,7 @@ static int parse(int count, char **words, struct request *request)
             status = take_number("--pc", ++i < count ? words[i] : "", &request->given.pc);
         else if (options && strcmp(words[i], "--fp") == 0)
             status = take_number("--fp", ++i < count ? words[i] : "", &request->given.fp);
-        else if (options && request->grids == 0 && strcmp(words[i], "--paste") == 0)
+        else if (options && request->pastes && strcmp(words[i], "--paste") == 0)
             request->paste = true;
         else if (options && words[i][0] == '-' && words[i][1])
             status = failed("%s has no option \"%s\": see uisnabar --help; a file of that name goes after --", request->name, words[i]);

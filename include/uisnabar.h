@@ -1,5 +1,5 @@
-/* Uisnabar's C library: the judge of leanVM tables, counts of the instruction forms that they reach, programs from
- * draft 0.5.0, listings of programs, streams of many hosts from one seed, and the reader of labels.
+/* Uisnabar's C library: the judge of leanVM tables, counts of the instruction forms that they reach, range checks in
+ * them, programs from draft 0.5.0, listings of programs, streams of many hosts from one seed, and the reader of labels.
  *
  * Link with libuisnabar.a, as `./bench lib` builds it (x86-64, System V calls); where it is installed, pkg-config
  * knows it as uisnabar. Every function returns; they keep nothing between calls and use no heap; they may be called
@@ -29,7 +29,7 @@
 #include <stdint.h>
 
 /* The version of this header and of the library it was made for. */
-#define UISNABAR_VERSION "4.0.0"
+#define UISNABAR_VERSION "4.1.0"
 /* The length of `answer`, and of `recipe`. Later versions may ask for more: use these names, and no number. */
 #define UISNABAR_ANSWER_BYTES 24
 #define UISNABAR_RECIPE_BYTES 20
@@ -37,6 +37,9 @@
 #define UISNABAR_GRID_BYTES 1080
 #define UISNABAR_WRITTEN_BYTES 8
 #define UISNABAR_REPORT_BYTES 5076
+/* The length of `found`; and of one find: the finds of a table of H rows are at most H - 2 times so many bytes. */
+#define UISNABAR_FOUND_BYTES 8
+#define UISNABAR_FIND_BYTES 8
 /* The longest line of a listing, its LF too: a listing of L instructions has at most L times so many bytes. */
 #define UISNABAR_LINE_BYTES 77
 /* The length of `next`; and how many hosts there are, 2^24: they are 0 to UISNABAR_HOSTS - 1. */
@@ -73,7 +76,8 @@ enum uisnabar_verdict {
     UISNABAR_EDITION = 15,    /* place: the first instruction of draft 0.5.0 that is not translatable */
     UISNABAR_LISTING = 16,    /* place: longest prefix shared with any valid listing */
     UISNABAR_SHORT = 17,      /* place: bytes that the buffer for a listing, or for its program, would need */
-    UISNABAR_HOST = 18        /* a host's number is at or above UISNABAR_HOSTS */
+    UISNABAR_HOST = 18,       /* a host's number is at or above UISNABAR_HOSTS */
+    UISNABAR_LIST = 19        /* place: finds, for which the buffer is too short */
 };
 
 /* A verdict's name, "unknown" for a number that is none. */
@@ -98,6 +102,7 @@ static inline const char *uisnabar_name(uint32_t verdict)
     case UISNABAR_LISTING: return "LISTING";
     case UISNABAR_SHORT: return "SHORT";
     case UISNABAR_HOST: return "HOST";
+    case UISNABAR_LIST: return "LIST";
     }
     return "unknown";
 }
@@ -152,6 +157,30 @@ uint32_t uisnabar_count(const uint8_t *program, size_t program_len, const uint8_
  */
 uint32_t uisnabar_report(const uint8_t *grid, size_t grid_len, uint8_t *text, size_t text_len,
                          uint8_t *written, size_t written_len, uint8_t *answer, size_t answer_len);
+
+/* Range checks in a table: judges as uisnabar_judge does, and where it accepts writes a find for each range check of
+ * draft 0.6.0, 2.6.3: three consecutive rows whose instructions are a DEREF of cell x with β 0, an ADD of cell x (as A)
+ * and cell j (as C) to the immediate t - 1 (as B), and a DEREF of cell j with β 0. The word of the cell at fp + x, fp
+ * that of the rows, is then below t, which is proved for every t from 1 to p.
+ *
+ * All such rows are finds: where they overlap, where the run comes by again, and where j is x too; C of either DEREF
+ * may be anything. An ADD of x as C and j as A is none. Where there is no find, nothing is said of a cell.
+ *
+ *   program to ext   as the judge takes them
+ *   finds    any length, at most UISNABAR_FIND_BYTES for each of H - 2 rows are ever needed. A find is the number of
+ *            the first of the three rows and then t, 4 bytes each, little-endian; finds stand in row order, and bytes
+ *            after the last keep what they held; written on ACCEPTED alone
+ *   found    UISNABAR_FOUND_BYTES, little-endian: the number of finds, 0 on a refusal
+ *   answer   UISNABAR_ANSWER_BYTES, written on every verdict but ANSWER
+ *
+ * Returns the judge's verdict; LIST, tested last, with the number of finds as place, where finds_len is less than
+ * UISNABAR_FIND_BYTES for each; or ANSWER where found_len or answer_len is another; nothing is written then. The cell's
+ * number and its word stand in the row that a find names, as addr A and value A.
+ */
+uint32_t uisnabar_ranges(const uint8_t *program, size_t program_len, const uint8_t *memory, size_t memory_len,
+                         uint64_t pc, uint64_t fp, const uint8_t *exec, size_t exec_len,
+                         const uint8_t *ext, size_t ext_len, uint8_t *finds, size_t finds_len,
+                         uint8_t *found, size_t found_len, uint8_t *answer, size_t answer_len);
 
 /* A program encoded by draft 0.5.0, translated into the form of draft 0.6.0. Over every memory and from every state
  * with fp below p the two take the same step or are stuck for the same reason; every instruction written is

@@ -130,6 +130,11 @@ streams() {
     against streams && python3 tests/streams.py cases | emulated target/c/streams | python3 tests/streams.py compare
 }
 
+# ranges: range checks by hand and by the Python implementation, through the library
+ranges() {
+    against ranges && python3 tests/ranges.py cases | emulated target/c/ranges | python3 tests/ranges.py compare
+}
+
 page_checks() {
     stage "layout, contracts, pages"
     check "layout (rt fmt --check)" rt fmt --check
@@ -169,6 +174,7 @@ run_checks() {
     check "programs of draft 0.5.0: words, refusals and runs as written by hand" editions
     check "listings: by hand, of the shelf and of every form, every cut and every change of a byte" listings
     check "streams: by hand, every jump of up to a million draws, every edge of a host" streams
+    check "range checks: by hand, of every kind of near miss, by chance, in rooms of every kind" ranges
     check "library and second implementation agree" differ 1 40000
     check "the same at the end of a page, on a small stack" differ --page 2 4000
     check "the same on large tables, in rounds and windows, accepted and refused" differ --large

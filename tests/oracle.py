@@ -4,9 +4,9 @@ Sources: document 01 ("01, <heading>"), document 02's M-103, M-104 and M-107 ("0
 <section>"), with the founders' decided points where they leave a choice. It shares nothing with the bench it is
 compared with, and is plain rather than fast. Here are labels, maker and tabler; words, elements and answers are in
 oracle_words.py, the judge in oracle_judge.py, form counts in oracle_forms.py, programs of draft 0.5.0 in
-oracle_editions.py, listings in oracle_listings.py, jumps and hosts in oracle_streams.py. Run as a program it checks
-itself, and them, by oracle_check.py, oracle_lookups.py, oracle_versions.py, oracle_runs.py and what those four have of
-their own.
+oracle_editions.py, listings in oracle_listings.py, jumps and hosts in oracle_streams.py, range checks in
+oracle_ranges.py. Run as a program it checks itself, and them, by oracle_check.py, oracle_lookups.py,
+oracle_versions.py, oracle_runs.py and what those five have of their own.
 """
 
 import struct
@@ -20,7 +20,7 @@ from oracle_words import (
 
 NAMES = ("ACCEPTED", "SIZE", "WORD", "INSTRUCTION", "START", "EXEC", "EXTENSION", "BUS",
          "LABEL", "STUCK", "ROOM", "OPEN", None,  # 12 is not used (02, M-107)
-         "ANSWER", "GRID", "EDITION", "LISTING", "SHORT", "HOST")
+         "ANSWER", "GRID", "EDITION", "LISTING", "SHORT", "HOST", "LIST")
 VERSIONS, BOUND = (1, 2), 4261412866  # of a recipe; version 2 throws away what it draws for a cell from here on
 
 # ---- draws, labels, maker ----
@@ -214,12 +214,14 @@ if __name__ == "__main__":
     import oracle_forms
     import oracle_listings
     import oracle_lookups
+    import oracle_ranges
     import oracle_runs
     import oracle_streams
     import oracle_versions
 
     CHECKED = [part.self_check() for part in (oracle_check, oracle_lookups, oracle_forms, oracle_editions,
-                                              oracle_versions, oracle_runs, oracle_listings, oracle_streams)]
+                                              oracle_versions, oracle_runs, oracle_listings, oracle_streams,
+                                              oracle_ranges)]
     PASSED, FAILED = ([line for part in parts for line in part] for parts in zip(*CHECKED))
     print("\n".join(FAILED) or "oracle: %d checks passed" % len(PASSED))
     sys.exit(bool(FAILED))

@@ -8,7 +8,7 @@ label_bytes=38
 # no label of a shelf is longer than this
 record_bytes=4096
 # the names of docs/VERDICTS.md, by number, of which 12 is not used: the gate compares them with the header's
-verdicts=(ACCEPTED SIZE WORD INSTRUCTION START EXEC EXTENSION BUS LABEL STUCK ROOM OPEN [13]=ANSWER GRID EDITION LISTING SHORT HOST)
+verdicts=(ACCEPTED SIZE WORD INSTRUCTION START EXEC EXTENSION BUS LABEL STUCK ROOM OPEN [13]=ANSWER GRID EDITION LISTING SHORT HOST LIST)
 
 # stop SENTENCE: what was asked could not be done
 stop() {

@@ -18,7 +18,7 @@ libdir=\${prefix}/lib
 includedir=\${prefix}/include
 
 Name: uisnabar
-Description: The proved judge of leanVM tables, form counts, programs of draft 0.5.0, listings, streams, label reader (x86-64)
+Description: The proved judge of leanVM tables, form counts, range checks, programs of draft 0.5.0, listings, streams, label reader (x86-64)
 Version: $(version)
 Cflags: -I\${includedir}
 Libs: -L\${libdir} -luisnabar

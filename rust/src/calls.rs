@@ -1,4 +1,4 @@
-//! The functions of libuisnabar.a, as include/uisnabar.h declares them.
+//! The functions of libuisnabar.a, as include/uisnabar.h declares them, and how those over tables are called.
 
 extern "C" {
     pub fn uisnabar_judge(
@@ -28,6 +28,24 @@ extern "C" {
         ext_len: usize,
         grid: *mut u8,
         grid_len: usize,
+        answer: *mut u8,
+        answer_len: usize,
+    ) -> u32;
+    pub fn uisnabar_ranges(
+        program: *const u8,
+        program_len: usize,
+        memory: *const u8,
+        memory_len: usize,
+        pc: u64,
+        fp: u64,
+        exec: *const u8,
+        exec_len: usize,
+        ext: *const u8,
+        ext_len: usize,
+        finds: *mut u8,
+        finds_len: usize,
+        found: *mut u8,
+        found_len: usize,
         answer: *mut u8,
         answer_len: usize,
     ) -> u32;
@@ -94,3 +112,23 @@ extern "C" {
         recipe_len: usize,
     ) -> u32;
 }
+
+/// A function of the library over a program, a memory, a start and two tables, and over buffers that it writes.
+macro_rules! on_tables {
+    ($call:ident($program:ident, $memory:ident, $pc:ident, $fp:ident, $exec:ident, $ext:ident), $($written:ident),+) => {
+        $call(
+            $program.as_ptr(),
+            $program.len(),
+            $memory.as_ptr(),
+            $memory.len(),
+            $pc,
+            $fp,
+            $exec.as_ptr(),
+            $exec.len(),
+            $ext.as_ptr(),
+            $ext.len(),
+            $($written.as_mut_ptr(), $written.len()),+
+        )
+    };
+}
+pub(crate) use on_tables;

@@ -1,6 +1,6 @@
-//! The proved judge of leanVM tables, counts of the instruction forms that they reach, programs from draft 0.5.0,
-//! listings of programs, streams of many hosts from one seed, and the reader of labels, from libuisnabar.a, without
-//! `unsafe` for the caller.
+//! The proved judge of leanVM tables, counts of the instruction forms that they reach, range checks in them, programs
+//! from draft 0.5.0, listings of programs, streams of many hosts from one seed, and the reader of labels, from
+//! libuisnabar.a, without `unsafe` for the caller.
 //!
 //! include/uisnabar.h documents each function, docs/VERDICTS.md every answer. A call of the library keeps nothing, uses
 //! no heap and at most [`STACK_BYTES`] of stack, [`count`] at most [`COUNT_STACK_BYTES`], and may be made from several
@@ -12,6 +12,7 @@
 //! assert_eq!(refusal.to_string(), "SIZE part 1 place 0 rule 0 expected 0 found 0");
 //! assert_eq!(uisnabar::count(&[], &[], 0, 0, &[], &[], &mut grid), Err(refusal));
 //! assert_eq!(uisnabar::report(&grid).unwrap(), "");
+//! assert_eq!(uisnabar::ranges(&[], &[], 0, 0, &[], &[]), Err(refusal));
 //! assert_eq!(uisnabar::translate(&[0; 56]).unwrap_err().name(), "EDITION");
 //! let program = uisnabar::read_listing(b"op=jump a=imm:1 b=imm:0 c=fp:0\n").unwrap();
 //! assert_eq!(uisnabar::list(&program).unwrap(), "op=jump a=imm:1 b=imm:0 c=fp:0\n");
@@ -24,13 +25,15 @@
 
 mod calls;
 mod listings;
+mod ranges;
 mod streams;
 
 use std::error::Error;
 use std::fmt;
 
-use calls::{uisnabar_count, uisnabar_judge, uisnabar_label, uisnabar_report, uisnabar_translate};
+use calls::{on_tables, uisnabar_count, uisnabar_judge, uisnabar_label, uisnabar_report, uisnabar_translate};
 pub use listings::{list, read_listing};
+pub use ranges::{ranges, Find};
 pub use streams::{host, jump};
 
 /// The version of the library that this crate is written for, `UISNABAR_VERSION`.
@@ -51,6 +54,8 @@ pub const HOSTS: u64 = 16777216;
 const ANSWER_BYTES: usize = 24;
 const RECIPE_BYTES: usize = 20;
 const WRITTEN_BYTES: usize = 8;
+const FOUND_BYTES: usize = 8;
+const FIND_BYTES: usize = 8;
 const NEXT_BYTES: usize = 8;
 // An instruction of draft 0.5.0 and of draft 0.6.0, and how many a program may have.
 const OLD_INSTRUCTION: usize = 56;
@@ -58,7 +63,7 @@ const INSTRUCTION: usize = 48;
 const MOST_INSTRUCTIONS: usize = 1 << 20;
 
 /// The verdicts by number; 12 is none, and is not used again.
-pub const NAMES: [&str; 19] = [
+pub const NAMES: [&str; 20] = [
     "ACCEPTED",
     "SIZE",
     "WORD",
@@ -78,6 +83,7 @@ pub const NAMES: [&str; 19] = [
     "LISTING",
     "SHORT",
     "HOST",
+    "LIST",
 ];
 const ACCEPTED: u32 = 0;
 const ANSWER: u32 = 13;
@@ -148,25 +154,6 @@ fn outcome(verdict: u32, answer: &[u8; ANSWER_BYTES]) -> Result<(), Refusal> {
             found: number(&answer[20..24]),
         }),
     }
-}
-
-/// A function of the library over a program, a memory, a start and two tables, and over buffers that it writes.
-macro_rules! on_tables {
-    ($call:ident($program:ident, $memory:ident, $pc:ident, $fp:ident, $exec:ident, $ext:ident), $($written:ident),+) => {
-        $call(
-            $program.as_ptr(),
-            $program.len(),
-            $memory.as_ptr(),
-            $memory.len(),
-            $pc,
-            $fp,
-            $exec.as_ptr(),
-            $exec.len(),
-            $ext.as_ptr(),
-            $ext.len(),
-            $($written.as_mut_ptr(), $written.len()),+
-        )
-    };
 }
 
 /// Whether the tables satisfy the constraints of leanVM draft 0.6.0 from the start (pc, fp), or the first reason why

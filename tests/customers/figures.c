@@ -13,7 +13,7 @@ enum { VERSION = 2 }; /* the byte of it that is its version */
 /* an instruction of draft 0.5.0 and of draft 0.6.0: an ADD of cells 1 and 3 that gives cell 2 */
 static const uint8_t old[56] = {[0] = 1, [4] = 2, [8] = 3, [24] = 1}, program[48] = {[0] = 1, [4] = 2, [8] = 3, [40] = 1};
 static struct {
-    uint8_t answer[MOST], recipe[MOST], grid[MOST], written[MOST], program[MOST], next[MOST];
+    uint8_t answer[MOST], recipe[MOST], grid[MOST], written[MOST], program[MOST], next[MOST], found[MOST];
 } lent;
 
 /* Calls in which one buffer has the length and the others have theirs. */
@@ -30,6 +30,16 @@ static uint32_t count_grid(size_t len)
 static uint32_t count_answer(size_t len)
 {
     return uisnabar_count(NULL, 0, NULL, 0, 0, 0, NULL, 0, NULL, 0, lent.grid, UISNABAR_GRID_BYTES, lent.answer, len);
+}
+
+static uint32_t ranges_found(size_t len)
+{
+    return uisnabar_ranges(NULL, 0, NULL, 0, 0, 0, NULL, 0, NULL, 0, NULL, 0, lent.found, len, lent.answer, UISNABAR_ANSWER_BYTES);
+}
+
+static uint32_t ranges_answer(size_t len)
+{
+    return uisnabar_ranges(NULL, 0, NULL, 0, 0, 0, NULL, 0, NULL, 0, NULL, 0, lent.found, UISNABAR_FOUND_BYTES, lent.answer, len);
 }
 
 static uint32_t report_grid(size_t len)
@@ -163,6 +173,8 @@ int main(void)
     lengths("judge's answer", judge_answer);
     lengths("count's grid", count_grid);
     lengths("count's answer", count_answer);
+    lengths("ranges' found", ranges_found);
+    lengths("ranges' answer", ranges_answer);
     lengths("report's grid", report_grid);
     lengths("report's written", report_written);
     lengths("report's answer", report_answer);
@@ -183,6 +195,7 @@ int main(void)
             printf("verdict %u %s\n", (unsigned)verdict, uisnabar_name(verdict));
     printf("answer %d\nrecipe %d\ngrid %d\nwritten %d\nreport %d\n", UISNABAR_ANSWER_BYTES, UISNABAR_RECIPE_BYTES, UISNABAR_GRID_BYTES,
            UISNABAR_WRITTEN_BYTES, UISNABAR_REPORT_BYTES);
+    printf("found %d\nfind %d\n", UISNABAR_FOUND_BYTES, UISNABAR_FIND_BYTES);
     printf("line %d\nnext %d\nhosts %d\n", UISNABAR_LINE_BYTES, UISNABAR_NEXT_BYTES, UISNABAR_HOSTS);
     printf("stack %d\ncount_stack %d\nversion %s\n", UISNABAR_STACK_BYTES, UISNABAR_COUNT_STACK_BYTES, UISNABAR_VERSION);
     return 0;

@@ -13,6 +13,9 @@ lengths() {
     echo "length judge's answer $(figure answer) SIZE"
     echo "length count's grid $(figure grid) SIZE"
     echo "length count's answer $(figure answer) SIZE"
+    for name in found answer; do
+        echo "length ranges' $name $(figure "$name") SIZE"
+    done
     for name in grid written answer; do
         echo "length report's $name $(figure "$name") SIZE"
     done
@@ -46,9 +49,10 @@ figures() {
     compile "$work/figures-program" -Iinclude tests/customers/figures.c target/staticlib/libuisnabar.a &&
         emulated "$work/figures-program" >"$work/figures" || fault "the program that reads the header's figures failed"
     equal "lengths that the library takes" "$(grep '^length\|^label\|^longest\|^room\|^instructions' "$work/figures")" "$(lengths)"
-    # document 02, M-103, M-104 and M-106
+    # document 02, M-103, M-104, M-106 and M-108
     equal "the lengths of an answer and of a recipe" "$(figure answer) $(figure recipe)" '24 20'
     equal "the length of a state, and the hosts" "$(figure next) $(figure hosts)" "8 $((1 << 24))"
+    equal "the lengths of a number of finds, and of a find" "$(figure found) $(figure find)" '8 8'
     for number in "${!verdicts[@]}"; do
         echo "verdict $number ${verdicts[number]}"
     done >"$work/verdicts"
@@ -60,7 +64,7 @@ figures() {
         equal "$file, answer" "$(rust_figure "$file" ANSWER_BYTES)" "$(figure answer)"
         equal "$file, recipe" "$(rust_figure "$file" RECIPE_BYTES)" "$(figure recipe)"
     done
-    for name in stack count_stack grid written report line next; do
+    for name in stack count_stack grid written report found find line next; do
         equal "rust/src/lib.rs, $name" "$(rust_figure rust/src/lib.rs "${name^^}_BYTES")" "$(figure "$name")"
     done
     equal "rust/src/lib.rs, hosts" "$(rust_figure rust/src/lib.rs HOSTS)" "$(figure hosts)"
@@ -130,6 +134,14 @@ lookups() {
     gives 0 rustc -O -L target/staticlib -l static=uisnabar -o "$work/lookups-rust" examples/driver.rs
     gives 1 of "$work/spoiled-tables" "$work/lookups-rust"
     said_file <(echo "$told")
+}
+
+# what a driver reads of range checks
+ranges() {
+    compile "$work/ranges-program" -Iinclude tests/customers/ranges.c target/staticlib/libuisnabar.a ||
+        fault "tests/customers/ranges.c cannot be compiled"
+    gives 0 emulated "$work/ranges-program"
+    said ' tried, 0 faults'
 }
 
 # what a driver reads of a listing, and hands in; the longest line is the header's

@@ -22,6 +22,24 @@ finds() {
     complained 'value B must be the cell at address B; cell 0 holds 335903614, value B is 335903489'
 }
 
+# checks PREFIX: the command there finds the range check of docs/VERDICTS.md's example, and nothing in refused tables
+checks() {
+    local parts="$work/checked"
+    mkdir -p "$parts"
+    sed -n '/^## Range checks/,/^## /s/^    op=/op=/p' "$1/share/doc/uisnabar/VERDICTS.md" >"$parts/listing"
+    gives 0 emulated "$1/bin/uisnabar" assemble "$parts/listing" "$parts/program"
+    # words apart: cells from 7 on, the rows of the halt, padding, which looks up cells 8 to 12
+    small 0 0 7 0 0 2 7 $(printf '0 %.0s' {7..255}) >"$parts/memory"
+    small 0 0 2 7 4 7 0 0 1 0 2 0 5 7 0 2 2 0 5 2 6 2 7 7 $(printf '3 0 0 0 0 0 0 0 %.0s' {3..255}) >"$parts/exec"
+    small $(printf '1 0 0 0 1 8 8 8 0 0 0 0 0 0 0 0 0 0 0 0 0 0 0 0 0 0 0 0 0 0 %.0s' {0..255}) >"$parts/ext"
+    gives 0 emulated "$1/bin/uisnabar" ranges "$parts"/{program,memory,exec,ext}
+    said_file <(echo 'row=0 cell=2 bound=10 value=7')
+    complained 'ACCEPTED: range checks found in 256 rows: 1'
+    gives 1 emulated "$1/bin/uisnabar" ranges --fp 1 "$parts"/{program,memory,exec,ext}
+    said ''
+    complained 'START: execution row 0 has pc 0 and fp 0, and the start handed in is pc 0 and fp 1'
+}
+
 # translates PREFIX: the command there writes a MUL of draft 0.5.0 by fp, and a refused program leaves what was written
 translates() {
     small 1 2 3 0 0 1 0 1 0 0 0 0 0 0 >"$work/old"
@@ -74,7 +92,8 @@ campaigns() {
 }
 
 # holds_tree PREFIX: a driver compiled by pkg-config judges; the programs answer the shelf, and the command counts its
-# forms, says what was found, translates, lists, reads labels and gives hosts their seeds; all as in the repository
+# forms, says what was found, finds range checks, translates, lists, reads labels and gives hosts their seeds; all as in
+# the repository
 holds_tree() {
     local doc=$1/share/doc/uisnabar shelf=$1/share/uisnabar/shelf flags label
     flags=$(PKG_CONFIG_PATH=$1/lib/pkgconfig pkg-config --cflags --libs uisnabar) || fault "pkg-config knows no uisnabar"
@@ -93,6 +112,7 @@ holds_tree() {
     gives 0 emulated "$1/bin/uisnabar" report "$work/tree-grid"
     said_file "$work/report"
     finds "$1"
+    checks "$1"
     translates "$1"
     lists "$1"
     reads "$1"

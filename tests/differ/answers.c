@@ -10,7 +10,7 @@ static const second_recipe recipe = { 1, 10, 1, 2 };
 static uint8_t parts[PARTS][4 * EXT_WORDS * ROWS];
 static uint8_t text[TEXT], fresh[SECOND_GRID_BYTES], old[OLD_UNIT];
 
-/* Judge, count and tabler, on the recipe's tables. */
+/* Judge, count, finder of ranges and tabler, on the recipe's tables. */
 static attempt on_tables(differ *d, enum function f)
 {
     world w = { .pc = 0 };
@@ -26,6 +26,8 @@ static attempt on_tables(differ *d, enum function f)
     attempt t = attempt_on(d, f, &w);
     if (f == COUNT)
         t.lent[PARTS] = (buffer){ fresh, sizeof fresh, false };
+    if (f == RANGES)
+        t.lent[PARTS + 1].len = FOUND_BYTES;
     return t;
 }
 
@@ -93,6 +95,7 @@ static attempt accepted(differ *d, enum function f)
     switch (f) {
     case JUDGE:
     case COUNT:
+    case RANGES:
     case TABLER:
         return on_tables(d, f);
     case REPORT:

@@ -1,4 +1,5 @@
-/* Inside build.c, builder.c, forms.c and old_build.c only: single instructions. */
+/* Inside build.c, builder.c, forms.c, old_build.c and what ranges.h has only:
+ * single instructions. */
 #ifndef DIFFER_BUILDER_H
 #define DIFFER_BUILDER_H
 
@@ -12,8 +13,9 @@ typedef struct {
     bool pinned[MAX_CELLS];      /* cells that a step already relies on */
 } builder;
 
-/* Operands' modes, numbered as a grid of forms has them. */
+/* Operands' modes and kinds, numbered as a grid of forms has them. */
 enum { IMMEDIATE, CELL, FRAME };
+enum { KIND_ADD, KIND_MUL, KIND_DEREF, KIND_JUMP, KIND_EXTENSION };
 
 /* A memory of b->cells words, none of them relied on but a one and zeros. */
 void fill_memory(builder *b);

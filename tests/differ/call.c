@@ -14,6 +14,7 @@ _Static_assert(UISNABAR_ANSWER_BYTES == ANSWER_BYTES
                && UISNABAR_RECIPE_BYTES == RECIPE_BYTES
                && UISNABAR_WRITTEN_BYTES == WRITTEN_BYTES
                && UISNABAR_NEXT_BYTES == NEXT_BYTES
+               && UISNABAR_FOUND_BYTES == FOUND_BYTES
                && UISNABAR_GRID_BYTES == SECOND_GRID_BYTES,
                "the header's lengths are the documents'");
 
@@ -87,25 +88,39 @@ static uint32_t call_stream_pair(const attempt *t, const slot *s)
         t->state, t->number, s[0].lent, s[0].len, s[1].lent, s[1].len);
 }
 
+/* Judge, count and finder of ranges. */
+static uint32_t call_on_tables(const attempt *t, const slot *s)
+{
+    switch (t->function) {
+    case JUDGE:
+        return uisnabar_judge(s[0].lent, s[0].len, s[1].lent, s[1].len, t->pc,
+                              t->fp, s[2].lent, s[2].len, s[3].lent, s[3].len,
+                              s[4].lent, s[4].len);
+    case COUNT:
+        return uisnabar_count(s[0].lent, s[0].len, s[1].lent, s[1].len, t->pc,
+                              t->fp, s[2].lent, s[2].len, s[3].lent, s[3].len,
+                              s[4].lent, s[4].len, s[5].lent, s[5].len);
+    default:
+        return uisnabar_ranges(s[0].lent, s[0].len, s[1].lent, s[1].len, t->pc,
+                               t->fp, s[2].lent, s[2].len, s[3].lent, s[3].len,
+                               s[4].lent, s[4].len, s[5].lent, s[5].len,
+                               s[6].lent, s[6].len);
+    }
+}
+
 static void call_library(void *at)
 {
     library_call *c = at;
     const slot *s = c->s;
     switch (c->t->function) {
     case JUDGE:
-        c->returned = uisnabar_judge(s[0].lent, s[0].len, s[1].lent, s[1].len,
-                                     c->t->pc, c->t->fp, s[2].lent, s[2].len,
-                                     s[3].lent, s[3].len, s[4].lent, s[4].len);
+    case COUNT:
+    case RANGES:
+        c->returned = call_on_tables(c->t, s);
         break;
     case LABEL_READER:
         c->returned = uisnabar_label(s[0].lent, s[0].len, s[1].lent, s[1].len,
                                      s[2].lent, s[2].len);
-        break;
-    case COUNT:
-        c->returned = uisnabar_count(s[0].lent, s[0].len, s[1].lent, s[1].len,
-                                     c->t->pc, c->t->fp, s[2].lent, s[2].len,
-                                     s[3].lent, s[3].len, s[4].lent, s[4].len,
-                                     s[5].lent, s[5].len);
         break;
     case REPORT:
         c->returned = uisnabar_report(s[0].lent, s[0].len, s[1].lent, s[1].len,

@@ -6,8 +6,8 @@
 #include "lend.h"
 #include "tally.h"
 
-enum { SLOTS = 6, FULL_DIFFERENCES = 10, NUMBERS = 6, ANSWER_BYTES = 4 * NUMBERS,
-       RECIPE_BYTES = 20, WRITTEN_BYTES = 8, NEXT_BYTES = 8 };
+enum { SLOTS = 7, FULL_DIFFERENCES = 10, NUMBERS = 6, ANSWER_BYTES = 4 * NUMBERS,
+       RECIPE_BYTES = 20, WRITTEN_BYTES = 8, NEXT_BYTES = 8, FOUND_BYTES = 8 };
 
 /* A buffer at entry; bytes NULL stands for random bytes. */
 typedef struct {
@@ -20,7 +20,7 @@ typedef struct {
  * answer's last but for the label reader, whose recipe comes after it. */
 typedef struct {
     enum function function;
-    uint64_t pc, fp;      /* judge, count and tabler */
+    uint64_t pc, fp;      /* judge, count, finder and tabler */
     second_recipe recipe; /* maker and writer */
     uint64_t state, number; /* jump and host: a seed, and draws or a host */
     buffer lent[SLOTS];
@@ -49,8 +49,8 @@ void note(differ *d, const char *format, ...);
 void note_back(differ *d, size_t len);
 
 /* More calls are asked for.  Counts, reports, translations with what is tabled
- * of these, listings, streams and recipes' runs come beside, so that they take
- * the place of no other. */
+ * of these, listings, streams, range checks and recipes' runs come beside, so
+ * that they take the place of no other. */
 static inline bool more_calls(const differ *d)
 {
     return d->calls - d->extra < d->limit;

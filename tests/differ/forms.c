@@ -7,7 +7,6 @@
 #include "grids.h"
 #include "tries.h"
 
-enum { KIND_ADD, KIND_MUL, KIND_DEREF, KIND_JUMP, KIND_EXTENSION };
 enum { POSSIBLE = 50, TIMES = 3, MEMORY_LOG = 12 };
 
 static world all; /* every form */

@@ -109,5 +109,6 @@ bool try_large(void)
     good &= try_dense(14, 14);
     good &= try_dense(16, 14);
     good &= try_large_olds();
-    return try_large_listings() && good;
+    good &= try_large_listings();
+    return try_large_ranges() && good;
 }

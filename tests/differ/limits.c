@@ -13,7 +13,7 @@
 static const size_t most[PARTS] = { (size_t)1 << 20, (size_t)1 << 29,
                                     (size_t)1 << 25, (size_t)1 << 20 };
 
-static const enum function functions[] = { JUDGE, TABLER, COUNT };
+static const enum function functions[] = { JUDGE, TABLER, COUNT, RANGES };
 
 static void try_limit(differ *d, enum function f, int part, size_t count,
                       uint8_t *zeros)
@@ -24,8 +24,9 @@ static void try_limit(differ *d, enum function f, int part, size_t count,
         t.lent[i] = (buffer){ bytes[i], 256 * unit_of(i), false };
     store_word(bytes[PROGRAM], P);
     t.lent[part] = (buffer){ zeros, unit_of(part) * count, true };
-    t.lent[PARTS].len = f == COUNT ? SECOND_GRID_BYTES : ANSWER_BYTES;
-    t.lent[PARTS + 1].len = f == COUNT ? ANSWER_BYTES : 0;
+    t.lent[PARTS].len = f == COUNT ? SECOND_GRID_BYTES : 0;
+    t.lent[PARTS + 1].len = f == RANGES ? FOUND_BYTES : 0;
+    t.lent[answer_slot(f)].len = ANSWER_BYTES;
     note_back(d, 0);
     note(d, "part %d with %zu of %zu bytes", part + 1, count, unit_of(part));
     compare(d, &t);
@@ -69,7 +70,7 @@ void try_limits(differ *d)
     }
     for (int part = 0; part < PARTS; part++) {
         size_t next = part == PROGRAM ? most[part] + 1 : 2 * most[part];
-        for (int i = 0; i < 6 && more_calls(d); i++)
+        for (int i = 0; i < 8 && more_calls(d); i++)
             try_limit(d, functions[i / 2], part,
                       i % 2 == 0 ? most[part] : next, zeros);
     }

@@ -1,14 +1,14 @@
 /* Compares the library with the second implementation, call by call.
  *
  *   differ SEED CALLS             stops after that many calls, counts, reports,
- *                                 translations, listings, streams, recipes' runs
- *                                 and the lists of versions.c, lookups.c and
- *                                 answers.c not among them
+ *                                 translations, listings, streams, range checks,
+ *                                 recipes' runs and the lists of versions.c,
+ *                                 lookups.c and answers.c not among them
  *   differ SEED 0 SECONDS         stops after that long
  *   differ --page SEED CALLS      buffers at pages that fault, small stack
  *   differ --large                a few tables of 16,383 and of 32,767 groups,
- *                                 and old programs and listings of 2^20
- *                                 instructions
+ *                                 old programs and listings of 2^20
+ *                                 instructions, and 131,071 range checks
  *
  * Ends with 0 if there is no difference and everything listed in tally.c was
  * reached, 1 if not, 2 if it could not run. */
@@ -42,8 +42,8 @@ static double seconds_now(void)
     return (double)t.tv_sec + (double)t.tv_nsec / 1e9;
 }
 
-/* A world, then labels, recipes, a report, old programs, listings and streams;
- * all forms now and then. */
+/* A world, then labels, recipes, a report, old programs, listings, streams and
+ * range checks; all forms now and then. */
 static void one_turn(differ *d, uint32_t turn)
 {
     if (turn % 16 == 0)
@@ -63,6 +63,7 @@ static void one_turn(differ *d, uint32_t turn)
         try_listing(d);
     for (int i = 0; i < 4; i++)
         try_stream(d);
+    try_range_world(d);
 }
 
 /* Until calls or seconds are used up. */
@@ -73,6 +74,7 @@ static void run(differ *d, uint64_t seconds)
     try_every_old(d);
     try_listing_sweeps(d);
     try_stream_edges(d);
+    try_range_edges(d);
     try_versions(d);
     try_runs(d);
     try_lookups(d);
@@ -103,7 +105,8 @@ int main(int argc, char **argv)
         return usage();
     printf("seed %" PRIu64 "\n", seed);
     if (!differ_open(&all, seed, paged) || !rounds_open() || !forms_open()
-        || !lookups_open() || !runs_open() || !old_runs_open()) {
+        || !lookups_open() || !runs_open() || !old_runs_open()
+        || !ranges_open()) {
         fprintf(stderr, "differ: no room\n");
         return 2;
     }
@@ -116,8 +119,8 @@ int main(int argc, char **argv)
     end_campaign(&all);
     bool complete = tally_report(&all.reached);
     printf("calls: %" PRIu64 ", and %" PRIu64 " of counts, reports, "
-           "translations, listings, streams, runs and lists\ndifferences: %"
-           PRIu64 "\n",
+           "translations, listings, streams, ranges, runs and lists\n"
+           "differences: %" PRIu64 "\n",
            all.calls - all.extra, all.extra, all.differences);
     return complete && all.differences == 0 ? 0 : 1;
 }

@@ -1,4 +1,6 @@
-/* One world, tabled, judged and counted as it is and in many other ways. */
+/* One world, tabled, judged, counted and searched as it is and in many other
+ * ways. */
+#include "ranges.h"
 #include "runs.h"
 #include "tries.h"
 
@@ -41,10 +43,11 @@ static void try_spoiled_tabler(differ *d)
     try_tabler(d, &other);
 }
 
-static void judge_and_count(differ *d, const world *w)
+static void judge_and_more(differ *d, const world *w)
 {
     try_judge(d, w);
     try_count(d, w);
+    try_ranges(d, w);
 }
 
 static void try_damaged_judge(differ *d)
@@ -58,7 +61,7 @@ static void try_damaged_judge(differ *d)
     }
     if (once_in(&d->random, 6))
         spoil(d, &other, PARTS);
-    judge_and_count(d, &other);
+    judge_and_more(d, &other);
 }
 
 void try_world(differ *d)
@@ -78,7 +81,7 @@ void try_world(differ *d)
     int times = a.verdict == ACCEPTED ? JUDGED : 1;
     for (int i = 0; i < times && more_calls(d); i++) {
         if (i == 0)
-            judge_and_count(d, &right);
+            judge_and_more(d, &right);
         else
             try_damaged_judge(d);
         note_back(d, mark);

@@ -6,13 +6,13 @@
 const char *const function_names[FUNCTIONS] = {
     "judge", "label reader", "tabler", "maker", "label writer", "count",
     "report", "translation", "lister", "listing reader", "stream jump",
-    "stream host"
+    "stream host", "finder of ranges"
 };
 
 static const char *const verdict_names[VERDICTS] = {
     "ACCEPTED", "SIZE", "WORD", "INSTRUCTION", "START", "EXEC", "EXTENSION",
     "BUS", "LABEL", "STUCK", "ROOM", "OPEN", "no verdict", "ANSWER", "GRID",
-    "EDITION", "LISTING", "SHORT", "HOST"
+    "EDITION", "LISTING", "SHORT", "HOST", "LIST"
 };
 
 const size_t answer_lengths[ANSWER_LENGTHS] = { 0, 16, 20, 23, 25, 48 };
@@ -63,6 +63,10 @@ static const bool expected[FUNCTIONS][VERDICTS] = {
                       [SHORT] = true },
     [STREAM_JUMP] = { [ACCEPTED] = true, [ANSWER] = true },
     [STREAM_HOST] = { [ACCEPTED] = true, [ANSWER] = true, [HOST] = true },
+    [RANGES] = { [ACCEPTED] = true, [SIZE] = true, [WORD] = true,
+                 [INSTRUCTION] = true, [START] = true, [EXEC] = true,
+                 [EXTENSION] = true, [BUS] = true, [ANSWER] = true,
+                 [LIST] = true },
 };
 
 /* A number outside its table is a difference's business, not the tally's. */
@@ -104,7 +108,7 @@ typedef struct {
     uint32_t first, last; /* each from first to last must be reached */
 } line;
 
-enum { LINES = 19 };
+enum { LINES = 21 };
 
 static void lines_of(const tally *t, line out[LINES])
 {
@@ -128,6 +132,8 @@ static void lines_of(const tally *t, line out[LINES])
         { "translation's WORD part", t->word[TRANSLATE], 1, 1 },
         { "lister's SIZE part", t->size[LISTER], 1, 1 },
         { "lister's WORD part", t->word[LISTER], 1, 1 },
+        { "finder's SIZE part", t->size[RANGES], 1, LAST_PART },
+        { "finder's WORD part", t->word[RANGES], 1, LAST_PART },
     };
     for (int i = 0; i < LINES; i++)
         out[i] = all[i];
@@ -216,5 +222,6 @@ bool tally_report(const tally *t)
     complete = run_report(&t->runs) && complete;
     complete = listing_report(&t->listings) && complete;
     complete = stream_report(&t->streams) && complete;
+    complete = range_report(&t->ranges) && complete;
     return old_report(&t->olds) && complete;
 }

@@ -8,18 +8,19 @@
 #include "listing_tally.h"
 #include "lookup_tally.h"
 #include "old_tally.h"
+#include "range_tally.h"
 #include "run_tally.h"
 #include "stream_tally.h"
 #include "version_tally.h"
 
 enum function { JUDGE, LABEL_READER, TABLER, MAKER, LABEL_WRITER, COUNT, REPORT,
                 TRANSLATE, LISTER, LIST_READER, STREAM_JUMP, STREAM_HOST,
-                FUNCTIONS };
+                RANGES, FUNCTIONS };
 
 /* The documents' verdicts; 12 is none of them (02, M-107). */
 enum { ACCEPTED, SIZE, WORD, INSTRUCTION, START, EXEC, EXTENSION, BUS, LABEL,
        STUCK, ROOM, OPEN, ANSWER = 13, GRID, EDITION, LISTING, SHORT, HOST,
-       VERDICTS };
+       LIST, VERDICTS };
 
 enum { LAST_EXEC_RULE = 16, LAST_EXT_RULE = 21, LAST_STUCK_RULE = 8,
        LAST_SIZE_PART = 5, LAST_PART = 4 };
@@ -51,6 +52,7 @@ typedef struct {
     run_tally runs;
     listing_tally listings;
     stream_tally streams;
+    range_tally ranges;
 } tally;
 
 extern const char *const function_names[FUNCTIONS];

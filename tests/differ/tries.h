@@ -53,6 +53,12 @@ void try_listing_sweeps(differ *d);
 void try_stream(differ *d);
 void try_stream_edges(differ *d);
 
+/* ranges.c: range checks in a world made for them; once every way to lack one,
+ * room and length of a buffer. */
+bool ranges_open(void);
+void try_range_world(differ *d);
+void try_range_edges(differ *d);
+
 /* large.c: tables of many groups; false where the two differ. */
 bool try_large(void);
 
@@ -61,6 +67,9 @@ bool try_large_olds(void);
 
 /* large_listing.c: listings of as many lines as there may be. */
 bool try_large_listings(void);
+
+/* large_ranges.c: a table of nothing but range checks. */
+bool try_large_ranges(void);
 
 /* limits.c: lengths at the largest of each part and just above. */
 void try_limits(differ *d);

@@ -7,22 +7,39 @@ typedef struct {
     uint32_t length;    /* of the label writer */
     uint64_t written;   /* of the report, the lister and its reader */
     uint64_t next;      /* of jump and host */
+    uint64_t found;     /* of the finder of ranges */
 } given;
 
-/* The second's answer; its work is done in the mirrors. */
-static second_answer second_answers(const attempt *t, const slot *s, given *out)
+/* Judge, count and finder of ranges. */
+static second_answer on_tables(const attempt *t, const slot *s, given *out)
 {
     switch (t->function) {
     case JUDGE:
         return (t->sorted ? second_judge_sorted : second_judge)(
             s[0].mirror, s[0].len, s[1].mirror, s[1].len, t->pc, t->fp,
             s[2].mirror, s[2].len, s[3].mirror, s[3].len);
-    case LABEL_READER:
-        return second_read_label(s[0].mirror, s[0].len, &out->read);
     case COUNT:
         return (t->sorted ? second_count_sorted : second_count)(
             s[0].mirror, s[0].len, s[1].mirror, s[1].len, t->pc, t->fp,
             s[2].mirror, s[2].len, s[3].mirror, s[3].len, s[4].mirror);
+    default:
+        return (t->sorted ? second_ranges_sorted : second_ranges)(
+            s[0].mirror, s[0].len, s[1].mirror, s[1].len, t->pc, t->fp,
+            s[2].mirror, s[2].len, s[3].mirror, s[3].len, s[4].mirror, s[4].len,
+            &out->found);
+    }
+}
+
+/* The second's answer; its work is done in the mirrors. */
+static second_answer second_answers(const attempt *t, const slot *s, given *out)
+{
+    switch (t->function) {
+    case JUDGE:
+    case COUNT:
+    case RANGES:
+        return on_tables(t, s, out);
+    case LABEL_READER:
+        return second_read_label(s[0].mirror, s[0].len, &out->read);
     case REPORT:
         return second_report(s[0].mirror, s[1].mirror, s[1].len, &out->written);
     case TRANSLATE:
@@ -54,7 +71,8 @@ int answer_slot(enum function f)
     static const int slots[FUNCTIONS] = {
         [JUDGE] = 4, [LABEL_READER] = 1, [TABLER] = 4, [MAKER] = 2,
         [LABEL_WRITER] = 1, [COUNT] = 5, [REPORT] = 3, [TRANSLATE] = 2,
-        [LISTER] = 3, [LIST_READER] = 3, [STREAM_JUMP] = 1, [STREAM_HOST] = 1
+        [LISTER] = 3, [LIST_READER] = 3, [STREAM_JUMP] = 1, [STREAM_HOST] = 1,
+        [RANGES] = 6
     };
     return slots[f];
 }
@@ -77,6 +95,8 @@ static bool lengths_fit(enum function f, const slot *s)
     case STREAM_JUMP:
     case STREAM_HOST:
         return s[0].len == NEXT_BYTES;
+    case RANGES:
+        return s[5].len == FOUND_BYTES;
     default:
         return true;
     }
@@ -116,13 +136,15 @@ static void tell(enum function f, const slot *s, second_answer a, given g)
         store_number(s[2].mirror, g.written);
     if (f == STREAM_JUMP || f == STREAM_HOST)
         store_number(s[0].mirror, g.next);
+    if (f == RANGES)
+        store_number(s[5].mirror, g.found);
 }
 
 second_answer wanted(const attempt *t, const slot *s, uint32_t *returned)
 {
     bool fit = lengths_fit(t->function, s);
     second_answer a = { .verdict = ANSWER };
-    given g = { { 0, 0, 0, 0 }, 0, 0, 0 };
+    given g = { { 0, 0, 0, 0 }, 0, 0, 0, 0 };
     if (fit || is_probe(t->function))
         a = second_answers(t, s, &g);
     if (fit)

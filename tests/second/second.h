@@ -1,7 +1,7 @@
-/* A second judge, counter of instruction forms, tabler, translator of programs
- * of draft 0.5.0, reader and writer of listings, generator's jump, maker and
- * label reader and writer for leanVM test tables, written from the documents
- * alone (see README.md).
+/* A second judge, counter of instruction forms, finder of range checks, tabler,
+ * translator of programs of draft 0.5.0, reader and writer of listings,
+ * generator's jump, maker and label reader and writer for leanVM test tables,
+ * written from the documents alone (see README.md).
  *
  * No function here keeps state, so all may be called from several threads.
  * A pointer may be NULL where its length is 0.  Buffers must not overlap. */
@@ -63,6 +63,27 @@ second_answer second_count_sorted(const uint8_t *program, size_t program_len,
                                   const uint8_t *exec, size_t exec_len,
                                   const uint8_t *ext, size_t ext_len,
                                   uint8_t *grid);
+
+/* Judges, and where all is accepted writes a row and a bound, 4 bytes each,
+ * little-endian, for each range check, in the order of the rows, and gives their
+ * number.  LIST, tested last, where they do not fit, with their number as place.
+ * On refusal no byte of finds changes and *found is 0.  Bytes of finds after the
+ * last keep what they held. */
+second_answer second_ranges(const uint8_t *program, size_t program_len,
+                            const uint8_t *memory, size_t memory_len,
+                            uint64_t pc, uint64_t fp,
+                            const uint8_t *exec, size_t exec_len,
+                            const uint8_t *ext, size_t ext_len,
+                            uint8_t *finds, size_t finds_len, uint64_t *found);
+
+/* The same, by second_judge_sorted. */
+second_answer second_ranges_sorted(const uint8_t *program, size_t program_len,
+                                   const uint8_t *memory, size_t memory_len,
+                                   uint64_t pc, uint64_t fp,
+                                   const uint8_t *exec, size_t exec_len,
+                                   const uint8_t *ext, size_t ext_len,
+                                   uint8_t *finds, size_t finds_len,
+                                   uint64_t *found);
 
 /* Writes a line for each counter that is not 0, and the report's length; where
  * it does not fit, SIZE part 5, no byte of text changes and *written is 0.

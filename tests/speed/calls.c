@@ -10,7 +10,7 @@
 #include "../second/second.h"
 
 static uint8_t answer[UISNABAR_ANSWER_BYTES], recipe[UISNABAR_RECIPE_BYTES], grid[SECOND_GRID_BYTES];
-static uint8_t written[UISNABAR_WRITTEN_BYTES], next[UISNABAR_NEXT_BYTES];
+static uint8_t written[UISNABAR_WRITTEN_BYTES], found[UISNABAR_FOUND_BYTES], next[UISNABAR_NEXT_BYTES];
 static source numbers;
 
 void expect(uint32_t verdict, uint32_t wanted, const char *what)
@@ -71,6 +71,22 @@ uint32_t second_counts(job *j)
     speed_input *in = j->in;
     return told(second_count(in->program, in->program_len, in->memory, in->memory_len, 0, 0, in->exec, in->exec_len, j->ext, in->ext_len,
                              grid));
+}
+
+/* finds go where the shuffled table stands later, which is longer than all that there may be */
+uint32_t library_ranges(job *j)
+{
+    speed_input *in = j->in;
+    return uisnabar_ranges(in->program, in->program_len, in->memory, in->memory_len, 0, 0, in->exec, in->exec_len, j->ext, in->ext_len,
+                           in->shuffled, in->ext_len, found, sizeof found, answer, sizeof answer);
+}
+
+uint32_t second_finds(job *j)
+{
+    speed_input *in = j->in;
+    uint64_t count;
+    return told(second_ranges(in->program, in->program_len, in->memory, in->memory_len, 0, 0, in->exec, in->exec_len, j->ext, in->ext_len,
+                              in->shuffled, in->ext_len, &count));
 }
 
 uint32_t library_table(job *j)

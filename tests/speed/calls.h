@@ -31,6 +31,8 @@ uint32_t second_judges(job *j);
 uint32_t second_sorts(job *j);
 uint32_t library_count(job *j);
 uint32_t second_counts(job *j);
+uint32_t library_ranges(job *j);
+uint32_t second_finds(job *j);
 uint32_t library_table(job *j);
 uint32_t second_tables(job *j);
 uint32_t library_make(job *j);

@@ -32,6 +32,9 @@ speed_input speed_dense(unsigned height_log, unsigned ext_log);
 /* Program and memory of a run that stays on its one instruction: of all tables the judge takes least for a row of these. */
 speed_input speed_halted(unsigned height_log);
 
+/* For all instructions but the halt, range checks of the last cell, which holds 0: each second row begins one. */
+void speed_check(speed_input *in);
+
 /* In `old` a program of draft 0.5.0, of all kinds, flags and AUX words; `program` has room for its translation. */
 speed_input speed_old(unsigned log);
 

@@ -52,6 +52,13 @@ static void counts(const char *beside_second, const char *beside_judge, compared
     printf("%-34s %-26s at most %.3f of judging, of a budget of %.2f%s\n", "", "", most, budget, most > budget ? ": OVER IT" : "");
 }
 
+/* Finding range checks beside the second's, then beside the library's own judge of the same tables. */
+static void ranges(const char *beside_second, const char *beside_judge, compared *c)
+{
+    compare(beside_second, c, SIZES, ROUNDS, library_ranges, second_finds);
+    compare(beside_judge, c, SIZES, ROUNDS, library_ranges, library_judge);
+}
+
 static void tables(void)
 {
     static const unsigned logs[SIZES][3] = {{12, 10, 14}, {15, 13, 17}, {18, 16, 20}};
@@ -68,6 +75,7 @@ static void tables(void)
     for (int s = 0; s < SIZES; s++)
         bytes_each_second(&c[s]);
     counts("count", "count; beside library's judge", c, SIZES);
+    ranges("ranges, nothing found", "ranges, nothing; library's judge", c);
     for (int s = 0; s < SIZES; s++) {
         speed_shuffle(&in[s], 2);
         c[s].j.ext = in[s].shuffled;
@@ -92,6 +100,25 @@ static void halted(void)
         expect(library_table(&c[s].j), 0, "tabler");
     }
     counts("count, halting rows", "count, halting; library's judge", c, SIZES);
+    for (int s = 0; s < SIZES; s++)
+        speed_free(&in[s]);
+}
+
+/* As many range checks as a table may have: each second row but the last begins one, of a cell that holds 0. */
+static void checked(void)
+{
+    static const unsigned logs[SIZES][3] = {{12, 10, 14}, {15, 13, 17}, {18, 16, 20}};
+    static const char *const names[SIZES] = {"H 2^12, K 2^10, m 14", "H 2^15, K 2^13, m 17", "H 2^18, K 2^16, m 20"};
+    static speed_input in[SIZES];
+    static compared c[SIZES];
+    for (int s = 0; s < SIZES; s++) {
+        in[s] = speed_build(logs[s][0], logs[s][1], logs[s][2], 1);
+        speed_check(&in[s]);
+        c[s] = (compared){.size = names[s], .units = (double)(in[s].height + in[s].ext_height)};
+        c[s].j = (job){.in = &in[s], .ext = in[s].ext, .calls = s == 0 ? 16 : s == 1 ? 2 : 1};
+        expect(library_table(&c[s].j), 0, "tabler");
+    }
+    ranges("ranges, each second row", "ranges, each; library's judge", c);
     for (int s = 0; s < SIZES; s++)
         speed_free(&in[s]);
 }
@@ -235,6 +262,7 @@ int main(void)
     printf("%-34s %-26s %10s %10s %7s %7s %8s %7s\n", "", "", "library ns", "second ns", "ratio", "growth", "second's", "in all");
     tables();
     halted();
+    checked();
     refused(0);
     refused(1);
     makers(1, "maker, each cell");

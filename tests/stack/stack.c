@@ -16,6 +16,8 @@ static uint8_t *stack;
 static speed_input in, old;
 static uint8_t answer[UISNABAR_ANSWER_BYTES], recipe[UISNABAR_RECIPE_BYTES], text[64], grid[UISNABAR_GRID_BYTES];
 static uint8_t report_text[UISNABAR_REPORT_BYTES], written[UISNABAR_WRITTEN_BYTES], next[UISNABAR_NEXT_BYTES];
+static uint8_t finds[UISNABAR_FIND_BYTES], found[UISNABAR_FOUND_BYTES];
+static size_t finds_len = sizeof finds;
 static uint8_t listing[UISNABAR_LINE_BYTES * LISTED], listed[48 * LISTED]; /* a program of so many instructions */
 static size_t listing_len;
 static int above; /* a call that is exported used more than the header says */
@@ -35,6 +37,13 @@ static void *count(void *ext)
 {
     uisnabar_count(in.program, in.program_len, in.memory, in.memory_len, 0, 0, in.exec, in.exec_len, ext, in.ext_len, grid, sizeof grid,
                    answer, sizeof answer);
+    return NULL;
+}
+
+static void *ranges(void *ext)
+{
+    uisnabar_ranges(in.program, in.program_len, in.memory, in.memory_len, 0, 0, in.exec, in.exec_len, ext, in.ext_len, finds, finds_len,
+                    found, sizeof found, answer, sizeof answer);
     return NULL;
 }
 
@@ -173,6 +182,24 @@ static size_t of_count(void)
     return most(used, over_tables(count));
 }
 
+/* With a range check, of the last cell, which holds 0, for the first three instructions: found, and without room. */
+static size_t of_ranges(void)
+{
+    uint32_t cell = (uint32_t)in.cells - 1, word; /* what cell 0 holds, to which 0 leads */
+    memcpy(&word, in.memory, sizeof word);
+    const uint32_t code[3][12] = {{cell, 0, word, 0, 1, 1, [10] = 2}, {cell, 0, cell, 0, 1, [10] = 1}, {cell, 0, word, 0, 1, 1, [10] = 2}};
+    memcpy(in.program, code, sizeof code);
+    tabler(NULL);
+    size_t used = over_tables(ranges);
+    finds_len--;
+    used = most(used, touched(ranges, in.ext));
+    if (answer[0] != UISNABAR_LIST) {
+        printf("no range check was found\n");
+        exit(2);
+    }
+    return used;
+}
+
 /* The longest report, and one that has no room. */
 static size_t of_report(void)
 {
@@ -256,6 +283,7 @@ int main(void)
     line("tabler", touched(tabler, NULL), start);
     exported("uisnabar_judge", over_tables(judge), start, UISNABAR_STACK_BYTES);
     exported("uisnabar_count", of_count(), start, UISNABAR_COUNT_STACK_BYTES);
+    exported("uisnabar_ranges", of_ranges(), start, UISNABAR_STACK_BYTES);
     exported("uisnabar_report", of_report(), start, UISNABAR_STACK_BYTES);
     exported("uisnabar_translate", of_translate(), start, UISNABAR_STACK_BYTES);
     exported("uisnabar_list", of_list(), start, UISNABAR_STACK_BYTES);

@@ -49,12 +49,12 @@ module _ (q : Parts) where
   module _ (finds : List ℕ) where
     -- the answer, the number and the buffer are what the promise says
     abbrev Ended : Answer → ℕ → List ℕ → Type 0
-    Ended a n after = (a ≡ rangesAnswer q (length finds)) × ((n ≡ rangesFound q (length finds)) × (after ≡ findsLeft q finds))
+    Ended a n after = (a ≡ rangesAnswer q (length finds)) × (n ≡ rangesFound q (length finds)) × (after ≡ findsLeft q finds)
 
     refusal : (a : Answer) → a ≡ rangesAnswer q (length finds) → accepted a ≡ false → Ended a 0 finds
     refusal a is not =
         let (none, same) = nothing-given q finds (ap accepted (sym is) ∙ not) in
-        (is, (sym none, sym same))
+        (is, sym none, sym same)
 
     module _ (a : Answer) (told : a ≡ judgeOf q) where
       pub refused : accepted a ≡ false → Ended a 0 finds
@@ -85,8 +85,6 @@ module _ (q : Parts) where
             written after left =
                 let is = fits q judged (length finds) (omega (arith, same)) in (
                   sym is,
-                  (
-                    same ∙ sym (number-given q (length finds) is),
-                    left ∙ (rw (rows-alone .0, rows-alone .1) (sym (finds-given q finds is))),
-                  ),
+                  same ∙ sym (number-given q (length finds) is),
+                  left ∙ rw (rows-alone .0, rows-alone .1) (sym (finds-given q finds is)),
                 )

@@ -28,9 +28,11 @@ pub fn find_ranges(
     ext: &[u8],
     finds: &mut [u8],
 ) -> Ranged
-    ensures { λ r. ⌜ r .answer ≡ rangesAnswer (partsOf (now (program .entry)) (now (memory .entry)) pc fp (now (exec .entry)) (now (ext .entry))) (length (now (finds .entry))) ⌝ }
-    ensures { λ r. ⌜ r .found ≡ rangesFound (partsOf (now (program .entry)) (now (memory .entry)) pc fp (now (exec .entry)) (now (ext .entry))) (length (now (finds .entry))) ⌝ }
-    ensures { λ _. ⌜ now (finds .exit) ≡ findsLeft (partsOf (now (program .entry)) (now (memory .entry)) pc fp (now (exec .entry)) (now (ext .entry))) (now (finds .entry)) ⌝ }
+    ensures { λ r. ⌜
+        (r .answer ≡ rangesAnswer (partsOf (now (program .entry)) (now (memory .entry)) pc fp (now (exec .entry)) (now (ext .entry))) (length (now (finds .entry))))
+        × (r .found ≡ rangesFound (partsOf (now (program .entry)) (now (memory .entry)) pc fp (now (exec .entry)) (now (ext .entry))) (length (now (finds .entry))))
+        × (now (finds .exit) ≡ findsLeft (partsOf (now (program .entry)) (now (memory .entry)) pc fp (now (exec .entry)) (now (ext .entry))) (now (finds .entry)))
+        ⌝ }
 {
     let answer = judge::judge(program, memory, pc, fp, exec, ext);
     if !accepted(answer) {

@@ -1,4 +1,5 @@
-// Three rows of an accepted table, by the words of their instructions. Each is well-formed, so its kind is in AUX alone.
+// Three rows of an accepted table, by the words of their instructions. Each is well-formed, so AUX alone tells an ADD
+// and a DEREF.
 use word::word_inside;
 ghost use mathlib.Core.Path.{_≡_};
 ghost use mathlib.Core.Bool.{true};

@@ -10,6 +10,7 @@ use Rattle.word.specs.Word.{p, _+ₚ_}
 use Rattle.word.proofs.WordLaws.{sum-zero}
 use Rattle.form.specs.declared.Form.{Form}
 use Rattle.form.specs.declared.Operand.{Operand}
+use Rattle.form.specs.declared.Mode.the-variants.{Cell}
 use Rattle.answer.specs.declared.Answer.the-variants.{Accepted}
 use Rattle.word.proofs.Tests.{by-order}
 use Rattle.machine.specs.Machine.{Machine, State, value, legal}
@@ -17,14 +18,18 @@ use Rattle.machine.specs.Step.{step, goes}
 use Rattle.machine.specs.Run.{StayingRun}
 use Rattle.tables.specs.Machine.{formIn}
 use Rattle.tables.specs.Rows.{formAt}
+use Rattle.rules.specs.Given.{next}
 use Rattle.rules.specs.Sizes.{Parts, givenOf, tablesOf}
 use Rattle.judge_spec.specs.Judged.{judgeOf}
 use Rattle.judge_spec.proofs.Exactly.{accepted-satisfies}
+use Rattle.run_steps.proofs.Operands.{Columns}
+use Rattle.run_steps.proofs.Sound.{row-means}
 use Rattle.run_steps.proofs.Legal.{Does, LegalStep, goes-only-if}
+use Rattle.run_groups.proofs.Pairs.{next-inner}
 use Rattle.run.specs.Runs.{Input, machine, startOf, lastRow, rowState}
 use Rattle.run.proofs.Sound.{sound}
-use Rattle.run.proofs.Words.{fit}
-use Rattle.range_spec.specs.RangeCheck.{RangeCheck, derefOf, addOf}
+use Rattle.run.proofs.Words.{exec-words, fit}
+use Rattle.range_spec.specs.RangeCheck.{operand, RangeCheck, derefOf, addOf}
 use Rattle.range_law.specs.Ranges.{cellChecked, Bounded}
 
 -- two words below M whose sum modulo p is t - 1
@@ -97,10 +102,28 @@ module _ (q : Parts) (e : judgeOf q ≡ Accepted) where
         let zero = sum-zero (givenOf q .cell (s .fp +ₚ offset)) (f .cells _ exists) in
         (rw frame at exists, rw frame at (rw zero at (l .1 .0)))
 
+    -- the first row's A columns
+    a-columns : Columns (givenOf q) (state r) (operand Cell x) (tablesOf q .exec r .addrA) (tablesOf q .exec r .valueA)
+    a-columns =
+        let s = accepted-satisfies q e in
+        let inside = c .inside in
+        let n = next (tablesOf q .height) r in
+        let follows : n ≡ r + 1 = next-inner (tablesOf q .height) r (omega arith) in
+        let words = exec-words (q .exec) (s .exec-words) in
+        let means = row-means (givenOf q) (fit q s) (tablesOf q .exec r) (tablesOf q .exec n) (words r (omega arith)) (words n (omega arith)) (s .constraints .execution r (omega arith)) in
+        rw (ap formIn (c .first)) at (means .operands .a)
+
     pub bounded : Bounded q r x bound
     bounded =
         let left = named (state r) (state (r + 1)) x (c .firstC) refl one in
         let right = named (state (r + 2)) (three .0) j (c .lastC) last-frame (three .1) in
         let sums : cellAt x +ₚ cellAt j ≡ bound - 1 = rw next-frame at (two .1 .0) in
         let (below, most) = below-sum (cellAt x) (cellAt j) (givenOf q .size) bound (left .1) (right .1) (fit q (accepted-satisfies q e) .small) sums (c .some) in
-        record { exists = left .0; below = below; most = most }
+        let address = a-columns .at in
+        record {
+          exists = left .0;
+          below = below;
+          most = most;
+          address = address;
+          value = a-columns .looked .holds ∙ ap (givenOf q .cell) address;
+        }

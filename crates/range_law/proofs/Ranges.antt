@@ -21,7 +21,7 @@ use Rattle.range_spec.specs.Finds.{allFinds}
 use Rattle.range_spec.specs.Finder.{findsIn, rangesAnswer, rangesFound, findsLeft}
 use Rattle.range_law.specs.Ranges.{Lists, Ranges}
 use Rattle.range_law.proofs.Below.{bounded, same-frame}
-use Rattle.range_law.proofs.Listed.{finds-length, all-listed}
+use Rattle.range_law.proofs.Listed.{finds-length, finds-most, all-listed}
 use Rattle.range_law.proofs.Answers.{judge-refuses, fits, too-short, number-given, finds-given, nothing-given}
 
 -- a byte behind what was put in the place of as many
@@ -107,6 +107,9 @@ module _ (q : Parts) where
       ∙ omega (arith, finds-length (givenOf q) (tablesOf q), length-drop (8 * findsIn q) finds))
       refl
 
+  most : judgeOf q ≡ Accepted → rangesAnswer q (8 * (tablesOf q .height - 2)) ≡ Accepted
+  most e = fits q (ap accepted e) _ (omega (arith, finds-most (givenOf q) (tablesOf q)))
+
 pub ranges : Ranges
 ranges =
     record {
@@ -117,5 +120,6 @@ ranges =
       length-kept = length-kept;
       judge-first = judge-first;
       list-place = list-place;
+      most = most;
       refused = refused;
     }

@@ -12,7 +12,7 @@ use lib.Seq.{getD-append-add}
 use Rattle.word.specs.Bytes.{wordAt, concatenated}
 use Rattle.word.proofs.Concatenated.{parts-append, parts-one}
 use Rattle.word.proofs.FourBytes.{read-bytes}
-use Rattle.word.proofs.Tests.{cases, by-order}
+use Rattle.word.proofs.Tests.{cases, by-order, by-test}
 use Rattle.rows.specs.Rows.{bytesOfWords}
 use Rattle.rules.specs.Bus.{total}
 use Rattle.rules.proofs.Totals.{one-more, total-split}
@@ -59,6 +59,12 @@ module _ (found : ℕ → Bool) (bound : ℕ → ℕ) where
 
   pub number-next : (r : ℕ) → found r ≡ true → number (r + 1) ≡ number r + 1
   number-next r t = one-more (λ r. cond (found r) 1 0) r ∙ rw t
+
+  -- a row is one find at most
+  pub number-most : (n : ℕ) → number n ≤ n
+  number-most zero = omega arith
+  number-most (suc n) =
+      omega (arith, number-most n, by-test (λ (x : ℕ). x ≤ 1) (found n) {x = 1} {y = 0} (λ _. omega arith) (λ _. omega arith))
 
   -- the find of row r
   pub stands : (n r : ℕ) (rest : List ℕ) → r < n → found r ≡ true → r < 2 ^ 32 → bound r < 2 ^ 32

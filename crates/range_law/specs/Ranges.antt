@@ -1,10 +1,10 @@
--- Draft 0.6.0, 2.6.3, and document 02, M-108: "In an accepted table the cell at x is then below t, for every t from 1 to
--- p [..] The finder writes a row and bound t, 4 bytes each, for every find, in row order, and gives their number, 0 on
--- refusal; bytes after the last find keep what they held. Refusals: the judge's own first; then 19 LIST if the buffer is
--- too short, place = finds, buffer unchanged."
+-- Draft 0.6.0, 2.6.3, and document 02, M-108: "In an accepted table the cell at x is then below t, for every t from 1
+-- to p [..] The finder writes a row and bound t, 4 bytes each, for every find, in row order, and gives their number, 0
+-- on refusal; bytes after the last find keep what they held. Refusals: the judge's own first; then 19 LIST if the
+-- buffer is too short, place = finds, buffer unchanged."
 -- `rangesAnswer`, `rangesFound` and `findsLeft` (range_spec) are what `range::find_ranges` promises.
 -- Declared in src/: Answer (answer).
-use Prim.Native.Nat.{ℕ, _+_, _*_, _≤_, _<_}
+use Prim.Native.Nat.{ℕ, _+_, _-_, _*_, _≤_, _<_}
 use mathlib.Core.Path.{_≡_}
 use mathlib.Core.List.{List}
 use lib.ListN.{length, getD}
@@ -20,11 +20,14 @@ use Rattle.range_spec.specs.Finder.{rangesAnswer, rangesFound, findsLeft}
 abbrev pub cellChecked : Parts → ℕ → ℕ → ℕ
 cellChecked q r x = tablesOf q .exec r .fp +ₚ x
 
--- it is one of the memory's, and holds a word below the bound; the bound is at most p
+-- it is one of the memory's, and holds a word below the bound; the bound is at most p. Row r has its number and its word
+-- as addr A and value A
 pub record Bounded (q : Parts) (r x bound : ℕ) : Type 0 where
   pub exists : cellChecked q r x < givenOf q .size
   pub below : givenOf q .cell (cellChecked q r x) < bound
   pub most : bound ≤ p
+  pub address : tablesOf q .exec r .addrA ≡ cellChecked q r x
+  pub value : tablesOf q .exec r .valueA ≡ givenOf q .cell (cellChecked q r x)
 
 -- a row and a bound are those of a range check, for some x and j
 abbrev pub IsRangeCheck : Parts → ℕ → ℕ → Type 0
@@ -60,6 +63,8 @@ pub record Ranges : Type 0 where
   -- LIST: the buffer was too short, 8 bytes for each of its place are enough, and then there are so many finds
   pub list-place : (q : Parts) (room n : ℕ) → rangesAnswer q room ≡ ListShort n
       → (room < 8 * n) × (rangesAnswer q (8 * n) ≡ Accepted) × (rangesFound q (8 * n) ≡ n)
+  -- a buffer of 8 bytes for each row that two more follow is always enough
+  pub most : (q : Parts) → judgeOf q ≡ Accepted → rangesAnswer q (8 * (tablesOf q .height - 2)) ≡ Accepted
   -- a refusal gives no number and changes no byte
   pub refused : (q : Parts) (finds : List ℕ) → (rangesAnswer q (length finds) ≡ Accepted → ⊥)
       → (rangesFound q (length finds) ≡ 0) × (findsLeft q finds ≡ finds)

@@ -1,6 +1,6 @@
 -- Draft 0.6.0, 2.6.3, and document 02, M-108: a check in three cycles that the cell at fp + x is below t. A DEREF of
 -- cell x with β 0, an ADD of cell x (as A) and cell j (as C) to immediate t - 1, and a DEREF of cell j with β 0.
--- Declared in src/: Form, Operand, Mode, Kind, Decoded (form).
+-- Declared in src/: Mode, Operand, Kind, Form, Decoded (form).
 use Prim.Native.Nat.{ℕ, _+_, _-_, _≤_, _<_}
 use mathlib.Core.Path.{_≡_}
 use Rattle.form.specs.Form.{decodeOf}

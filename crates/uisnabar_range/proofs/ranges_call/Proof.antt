@@ -31,7 +31,7 @@ returns-2 c =
     let q : Parts = partsOf (s .program .now) (s .memory .now) (s .pc) (s .fp) (s .exec .now) (s .ext .now) in
     let e = sym (c .before .before .before .before .before .before .before .before .before .before .before .before .told-fits .ensures) ∙ not-false _ (c .before .before .before .before .before .before .before .before .before .before .before .if1 .left) in
     let did = c .before .before .before .before .before .before .before .before .before .find-ranges in
-    finds-by q (s .finds .now) (s .found .now) (s .answer .now) (did .result .answer) (did .result .found) (did .last .1 .1 .1 .1 .1 .1 .0) (did .ensures .0) (did .ensures .1 .0) (did .ensures .1 .1)
+    finds-by q (s .finds .now) (s .found .now) (s .answer .now) (did .result .answer) (did .result .found) (did .last .1 .1 .1 .1 .1 .1 .0) (did .ensures .0) (did .ensures .1) (did .ensures .2)
     (left (s .found .now) (s .answer .now) e (did .last .1 .1 .1 .1 .1 .1 .0) (s .finds .now))
     (told (s .found .now) (s .answer .now) e (did .result .answer) (did .result .found) _ _ _ (c .before .before .before .before .tell .ensures))
 
