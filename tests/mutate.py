@@ -98,7 +98,7 @@ EDITS = [
     ("A and C exchanged in the ADD", RANGE + "Finds.antt", r"\(second \.a\) first (.*) \(second \.c\) last$", r"(second .c) first \1 (second .a) last"),
     ("an ADD to a cell", RANGE + "Finds.antt", r" && eqb \(i \.fb\) 1", ""),
     ("an ADD of an immediate C", RANGE + "Finds.antt", r" && eqb \(i \.fc\) 0", ""),
-    ("the row of the last", RANGE + "Finds.antt", r"\(r ∷ boundAt g t r ∷ \[\]\)", "(r + 2 ∷ boundAt g t r ∷ [])"),
+    ("the row of the last", RANGE + "Finds.antt", r"\(r ∷ boundAt g t r ∷ \[\]\)", "((r + 2) ∷ boundAt g t r ∷ [])"),
     ("t = B", RANGE + "Finds.antt", r"instructionOf g t \(r \+ 1\) \.b \+ 1$", "instructionOf g t (r + 1) .b"),
     ("one find too few at the table's end", RANGE + "Finds.antt", r"^firstRows t = .*$", "firstRows t = t .height - 3"),
     ("LIST before the judge's refusals", RANGE + "Finder.antt", r"cond \(accepted .*\)\) \(judgeOf q\)$", "cond (leb (8 * findsIn q) room) (judgeOf q) (ListShort (findsIn q))"),

@@ -20,8 +20,8 @@ use Rattle.range_spec.specs.Finder.{rangesAnswer, rangesFound, findsLeft}
 abbrev pub cellChecked : Parts → ℕ → ℕ → ℕ
 cellChecked q r x = tablesOf q .exec r .fp +ₚ x
 
--- it is one of the memory's, and holds a word below the bound; the bound is at most p. Row r has its number and its word
--- as addr A and value A
+-- it is one of the memory's, and holds a word below the bound; the bound is at most p. Row r has the cell's number and
+-- word as addr A and value A
 pub record Bounded (q : Parts) (r x bound : ℕ) : Type 0 where
   pub exists : cellChecked q r x < givenOf q .size
   pub below : givenOf q .cell (cellChecked q r x) < bound
