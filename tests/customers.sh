@@ -93,7 +93,7 @@ customers() {
     local part
     for part in statuses inputs unwritable usages links shelves shelf_faults shelf_time records disagreement \
         shelf_old shelf_forms forms_folders forms_statuses figures answer_named lookups ranges listings streams stack_figure installed tarball \
-        rust_crate; do
+        list_said rust_crate; do
         "$part"
     done
     echo "what customers hold: $faults faults"

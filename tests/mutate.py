@@ -100,11 +100,12 @@ EDITS = [
     ("an ADD of an immediate C", RANGE + "Finds.antt", r" && eqb \(i \.fc\) 0", ""),
     ("the row of the last", RANGE + "Finds.antt", r"\(r ∷ boundAt g t r ∷ \[\]\)", "((r + 2) ∷ boundAt g t r ∷ [])"),
     ("t = B", RANGE + "Finds.antt", r"instructionOf g t \(r \+ 1\) \.b \+ 1$", "instructionOf g t (r + 1) .b"),
-    ("one find too few at the table's end", RANGE + "Finds.antt", r"^firstRows t = .*$", "firstRows t = t .height - 3"),
-    ("LIST before the judge's refusals", RANGE + "Finder.antt", r"cond \(accepted .*\)\) \(judgeOf q\)$", "cond (leb (8 * findsIn q) room) (judgeOf q) (ListShort (findsIn q))"),
-    ("LIST's place in bytes", RANGE + "Finder.antt", r"\(ListShort \(findsIn q\)\)", "(ListShort (8 * findsIn q))"),
-    ("a refusal that gives a number", RANGE + "Finder.antt", r"\(findsIn q\) 0$", "(findsIn q) (findsIn q)"),
-    ("bytes after the last find moved up", RANGE + "Finder.antt", r"drop \(8 \* findsIn q\) finds", "drop (findsIn q) finds"),
+    ("one find too few at the table's end", RANGE + "Finds.antt", r"^firstRows t = .*$", "firstRows t = t .height - 4"),
+    ("LIST before the judge's refusals", RANGE + "Finder.antt", r"cond \(accepted .*\)\) \(judgeOf q\)$", "cond (leb (8 * findsNumberIn q) room) (judgeOf q) (ListShort (findsNumberIn q))"),
+    ("SHORT for LIST", RANGE + "Finder.antt", r"\bListShort\b", "Short"),
+    ("LIST's place in bytes", RANGE + "Finder.antt", r"\(ListShort \(findsNumberIn q\)\)", "(ListShort (8 * findsNumberIn q))"),
+    ("a refusal that gives a number", RANGE + "Finder.antt", r"\(findsNumberIn q\) 0$", "(findsNumberIn q) (findsNumberIn q)"),
+    ("bytes after the last find moved up", RANGE + "Finder.antt", r"drop \(8 \* findsNumberIn q\) finds", "drop (findsNumberIn q) finds"),
 ]
 
 # the crate of theorems that must refuse an edit, by the crate that is edited; of the others it is run

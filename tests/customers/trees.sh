@@ -40,6 +40,19 @@ checks() {
     complained 'START: execution row 0 has pc 0 and fp 0, and the start handed in is pc 0 and fp 1'
 }
 
+# LIST's sentence, by a command with room for no find; the parts are those that `checks` left
+list_said() {
+    local short="$work/short"
+    mkdir -p "$short"
+    cp cli/*.[ch] "$short"
+    sed -i 's/MOST_ROWS = 1 << 25/MOST_ROWS = 0/' "$short/ranges.c"
+    compile "$short/uisnabar" -Wno-type-limits -static -Iinclude "$short"/*.c target/staticlib/libuisnabar.a ||
+        fault "cli/ with room for no find cannot be compiled"
+    gives 1 emulated "$short/uisnabar" ranges "$work"/checked/{program,memory,exec,ext}
+    said ''
+    complained 'LIST: the buffer for the finds is too short: there are 1, which need 8 bytes'
+}
+
 # translates PREFIX: the command there writes a MUL of draft 0.5.0 by fp, and a refused program leaves what was written
 translates() {
     small 1 2 3 0 0 1 0 1 0 0 0 0 0 0 >"$work/old"

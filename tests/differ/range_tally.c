@@ -5,7 +5,7 @@
 
 static const char *const need_names[RANGE_NEEDS] = {
     [FIRST_IS_DEREF] = "the first is a DEREF",
-    [FIRST_BETA_0] = "its beta is 0",
+    [FIRST_BETA_0] = "the first DEREF's beta is 0",
     [MIDDLE_IS_ADD] = "the second is an ADD",
     [A_IS_CELL] = "its A is a cell",
     [A_IS_X] = "its A is x",
@@ -13,7 +13,7 @@ static const char *const need_names[RANGE_NEEDS] = {
     [C_NOT_IMMEDIATE] = "its C is not immediate",
     [C_NOT_FRAME] = "its C is not fp-relative",
     [LAST_IS_DEREF] = "the third is a DEREF",
-    [LAST_BETA_0] = "its beta is 0",
+    [LAST_BETA_0] = "the last DEREF's beta is 0",
     [LAST_IS_J] = "its A is j",
 };
 

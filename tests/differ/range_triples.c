@@ -3,7 +3,7 @@
 #include "ranges.h"
 
 const char *const range_ways[RANGE_WAYS] = {
-    "find", "x is j", "first beta", "last beta", "both betas", "first kind",
+    "find", "x is j", "first beta", "last beta", "B p - 1", "first kind",
     "middle kind", "last kind", "A immediate", "B cell", "C immediate",
     "C fp-relative", "A beside x", "last beside j", "swapped", "jump before ADD",
     "jump behind ADD"
@@ -150,7 +150,7 @@ static void give_beta(builder *b, triple *t, int which)
 }
 
 /* The values' sum is p - 1, so that t would be p.  No find of an accepted table
- * has it, as both its cells are below M, 2^29 at most: one beta is not 0. */
+ * has it, as both its cells are below M, 2^29 at most: one beta is not 0, or both. */
 static void give_largest(builder *b, triple *t)
 {
     int kept = (int)below(b->random, 3), other = kept == 1 ? 0 : 1;
@@ -185,7 +185,7 @@ void put_triple(builder *b, uint32_t zeros, enum range_way way)
     t.swapped = way == SWAPPED;
     if (way == BETA_FIRST || way == BETA_LAST)
         give_beta(b, &t, way == BETA_LAST);
-    if (way == BETA_BOTH)
+    if (way == B_LARGEST)
         give_largest(b, &t);
     if (way >= OTHER_FIRST && way <= OTHER_LAST)
         give_kind(b, &t, way - OTHER_FIRST, zeros);

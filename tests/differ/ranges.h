@@ -14,7 +14,7 @@ uint32_t count_ranges(range_tally *t, const world *w, uint8_t to[FIND_BYTES * MO
 /* range_triples.c: three instructions that are a find, or lack what the way
  * says.  The cells at `zeros` are five zeros. */
 enum range_way {
-    FIND, FIND_SAME, BETA_FIRST, BETA_LAST, BETA_BOTH, OTHER_FIRST, OTHER_MIDDLE,
+    FIND, FIND_SAME, BETA_FIRST, BETA_LAST, B_LARGEST, OTHER_FIRST, OTHER_MIDDLE,
     OTHER_LAST, A_IMMEDIATE, B_CELL, C_IMMEDIATE, C_FRAME, OFF_X, OFF_J, SWAPPED,
     JUMP_FIRST, JUMP_LAST, RANGE_WAYS
 };

@@ -51,7 +51,8 @@ static void one_case(const uint64_t n[NUMBERS])
 int main(void)
 {
     uint64_t n[NUMBERS];
-    while (read_case(n))
+    int next;
+    while ((next = getchar()) != EOF && ungetc(next, stdin) == next && read_case(n))
         one_case(n);
-    return !feof(stdin) || fflush(stdout) != 0 ? 2 : 0;
+    return next != EOF || ferror(stdin) || fflush(stdout) != 0 ? 2 : 0;
 }

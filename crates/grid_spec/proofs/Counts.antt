@@ -22,7 +22,7 @@ use Rattle.answer.specs.declared.Answer.the-variants.{Accepted}
 use Rattle.rules.specs.Given.{Given, Tables}
 use Rattle.rules.specs.Bus.{total, instructionOf}
 use Rattle.rules.specs.Sizes.{Parts, givenOf, tablesOf}
-use Rattle.rules.proofs.Totals.{total-zero}
+use Rattle.rules.proofs.Totals.{total-zero, total-most}
 use Rattle.judge_spec.specs.Judged.{judgeOf}
 use Rattle.judge_spec.proofs.AcceptedRows.{row-formed}
 use Rattle.grid_spec.specs.Forms.{kindNumber, modeNumber, counterOf, counterAt, rowsOf}
@@ -50,9 +50,7 @@ counter-few (Well f) t =
 module _ (g : Given) (t : Tables) where
   -- one row counts once at most
   pub rows-most : (k n : ℕ) → rowsOf g t k n ≤ n
-  rows-most k zero = omega arith
-  rows-most k (suc n) =
-      omega (arith, rows-most k n, by-test (λ (x : ℕ). x ≤ 1) (eqb (counterAt g t n) k) {x = 1} {y = 0} (λ e. omega arith) (λ e. omega arith))
+  rows-most k n = total-most (λ r. eqb (counterAt g t r) k) n
 
   -- where every row has one of w counters, they gain as many as there are rows
   rows-total : (w n : ℕ) → ((r : ℕ) → r < n → counterAt g t r < w) → total (λ k. rowsOf g t k n) w ≡ n

@@ -16,14 +16,14 @@ use Rattle.judge_spec.proofs.Exactly.{accepted-satisfies}
 use Rattle.judge_spec.proofs.Lengths.{whole}
 use Rattle.bus_tuples.proofs.AcceptedRows.{accepted-listed}
 use Rattle.range_spec.specs.Finds.{foundAt, boundAt, allFinds, findsNumber}
-use Rattle.range_spec.specs.Finder.{findsIn, rangesAnswer, rangesFound, findsLeft}
-use Rattle.range_law.proofs.Found.{bound-small}
-use Rattle.range_law.proofs.Answers.{judge-refuses, fits, too-short, number-given, finds-given, nothing-given}
+use Rattle.range_spec.specs.Finder.{findsNumberIn, rangesAnswer, rangesFound, findsLeft}
+use Rattle.range_finds.proofs.All.{bound-small}
+use Rattle.range_finds.proofs.Answers.{judge-refuses, fits, too-short, number-given, finds-given, nothing-given}
 use Rattle.range.specs.Walkable.{Walkable}
 
 module _ (q : Parts) where
   -- finds are read from the program and the execution table alone
-  rows-alone : (findsNumber (given (q .program) []) (tables (q .exec) []) ≡ findsIn q)
+  rows-alone : (findsNumber (given (q .program) []) (tables (q .exec) []) ≡ findsNumberIn q)
       × (allFinds (given (q .program) []) (tables (q .exec) []) ≡ allFinds (givenOf q) (tablesOf q))
   unfolding findsNumber allFinds foundAt boundAt
   rows-alone = (refl, refl)
@@ -68,7 +68,7 @@ module _ (q : Parts) where
         ready = accepted-walkable (accepted-is (judgeOf q) judged)
 
         module _ (n : ℕ) (counted : n ≡ findsNumber (given (q .program) []) (tables (q .exec) [])) where
-          same : n ≡ findsIn q
+          same : n ≡ findsNumberIn q
           same = counted ∙ rows-alone .0
 
           pub short : length finds / 8 < n → Ended (ListShort n) 0 finds
@@ -76,15 +76,15 @@ module _ (q : Parts) where
               refusal (ListShort n) (ap ListShort same ∙ sym (too-short q judged (length finds) (omega (arith, same)))) refl
 
           module _ (enough : n ≤ length finds / 8) where
-            pub room : 8 * findsNumber (given (q .program) []) (tables (q .exec) []) ≤ length finds
-            room = omega (arith, counted)
+            pub room : 8 * n ≤ length finds
+            room = omega arith
 
             pub written : (after : List ℕ)
-                → after ≡ allFinds (given (q .program) []) (tables (q .exec) []) ++ drop (8 * findsNumber (given (q .program) []) (tables (q .exec) [])) finds
+                → after ≡ allFinds (given (q .program) []) (tables (q .exec) []) ++ drop (8 * n) finds
                 → Ended Accepted n after
             written after left =
                 let is = fits q judged (length finds) (omega (arith, same)) in (
                   sym is,
                   same ∙ sym (number-given q (length finds) is),
-                  left ∙ rw (rows-alone .0, rows-alone .1) (sym (finds-given q finds is)),
+                  left ∙ rw (same, rows-alone .1) (sym (finds-given q finds is)),
                 )

@@ -45,7 +45,7 @@ pub fn find_ranges(
             found: 0,
         };
     }
-    put_finds(program, exec, &mut *finds);
+    put_finds(program, exec, n, &mut *finds);
     Ranged {
         answer: Answer::Accepted,
         found: n as u64,

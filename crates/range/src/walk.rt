@@ -54,20 +54,17 @@ fn put_row(program: &[u8], exec: &[u8], r: usize, at: usize, finds: &mut [u8]) -
     at + 8
 }
 
-// Each behind the one before it; the bytes after the last stay.
-pub(crate) fn put_finds(program: &[u8], exec: &[u8], finds: &mut [u8])
+// Each behind the one before it, until there is none left; the bytes after the last stay.
+pub(crate) fn put_finds(program: &[u8], exec: &[u8], n: usize, finds: &mut [u8])
     requires { ⌜ Walkable (now program) (now exec) ⌝ }
-    requires { ⌜ 8 * findsNumber (given (now program) []) (tables (now exec) []) ≤ length (now finds) ⌝ }
-    ensures { λ _. ⌜
-        now (finds .exit)
-        ≡ allFinds (given (now (program .entry)) []) (tables (now (exec .entry)) [])
-        ++ drop (8 * findsNumber (given (now (program .entry)) []) (tables (now (exec .entry)) [])) (now (finds .entry))
-        ⌝ }
+    requires { ⌜ n ≡ findsNumber (given (now program) []) (tables (now exec) []) ⌝ }
+    requires { ⌜ 8 * n ≤ length (now finds) ⌝ }
+    ensures { λ _. ⌜ now (finds .exit) ≡ allFinds (given (now (program .entry)) []) (tables (now (exec .entry)) []) ++ drop (8 * n) (now (finds .entry)) ⌝ }
 {
-    let rows = first_rows(exec);
+    let end = 8 * n;
     let mut at = 0;
     let mut r = 0;
-    while r < rows {
+    while at < end {
         at = put_row(program, exec, r, at, finds);
         r += 1;
     }

@@ -2,7 +2,7 @@
 -- which is below p, is t - 1.
 -- Assumes nothing.
 use mathlib.Core.Path.{_≡_, refl, ap, subst, _∙_}
-use Prim.Native.Nat.{ℕ, _+_, _-_, _≤_, _<_, _^_}
+use Prim.Native.Nat.{ℕ, _+_, _-_, _*_, _≤_, _<_, _^_}
 use native.Mathlib.Numerals.{add-one}
 use native.Mathlib.Omega.{arith}
 use lib.Dec.{T, ltb→lt}
@@ -33,13 +33,13 @@ use Rattle.range_spec.specs.RangeCheck.{operand, RangeCheck, derefOf, addOf}
 use Rattle.range_law.specs.Ranges.{cellChecked, Bounded}
 
 -- two words below M whose sum modulo p is t - 1
-below-sum : (a b m t : ℕ) → a < m → b < m → m ≤ 2 ^ 29 → a +ₚ b ≡ t - 1 → 1 ≤ t → (a < t) × (t ≤ p)
+below-sum : (a b m t : ℕ) → a < m → b < m → m ≤ 2 ^ 29 → a +ₚ b ≡ t - 1 → 1 ≤ t → (a < t) × (t ≤ p) × (t < 2 * m)
 unfolding _+ₚ_
-below-sum a b m t ha hb hm e some = (omega arith, omega arith)
+below-sum a b m t ha hb hm e some = (omega arith, omega arith, omega arith)
 
 -- a legal step of an instruction whose form is known: A is read, and what its kind asks is so
-abbrev Told : Machine → State → State → Form → Type 0
-Told m s t f = T (legal m s (f .a)) × Does m s t f (f .kind) (value m s (f .a)) (value m s (f .b)) (value m s (f .c))
+abbrev LegalAs : Machine → State → State → Form → Type 0
+LegalAs m s t f = T (legal m s (f .a)) × Does m s t f (f .kind) (value m s (f .a)) (value m s (f .b)) (value m s (f .c))
 
 module _ (q : Parts) (e : judgeOf q ≡ Accepted) where
   abbrev input : Input
@@ -51,19 +51,19 @@ module _ (q : Parts) (e : judgeOf q ≡ Accepted) where
   abbrev state : ℕ → State
   state = rowState (q .exec)
 
-  legal-step : (s t : State) (f : Form) → step m s ≡ goes t → formAt m s ≡ f → Told m s t f
+  legal-step : (s t : State) (f : Form) → step m s ≡ goes t → formAt m s ≡ f → LegalAs m s t f
   legal-step s t f goes-on is =
       let l : LegalStep m s t = goes-only-if goes-on in
-      subst (Told m s t) is (l .legal .a, l .does)
+      subst (LegalAs m s t) is (l .legal .a, l .does)
 
   abbrev run : StayingRun m (startOf input) (lastRow (q .exec)) state
   run = sound input (q .exec) (q .ext) e .run
 
   -- a row that another one follows, and any row
-  followed : (r : ℕ) (f : Form) → r + 1 < tablesOf q .height → formAt m (state r) ≡ f → Told m (state r) (state (r + 1)) f
+  followed : (r : ℕ) (f : Form) → r + 1 < tablesOf q .height → formAt m (state r) ≡ f → LegalAs m (state r) (state (r + 1)) f
   followed r f h is = legal-step (state r) (state (r + 1)) f (rw (← add-one r) at (run .steps r (omega arith))) is
 
-  any : (r : ℕ) (f : Form) → r < tablesOf q .height → formAt m (state r) ≡ f → (t : State) × Told m (state r) t f
+  any : (r : ℕ) (f : Form) → r < tablesOf q .height → formAt m (state r) ≡ f → (t : State) × LegalAs m (state r) t f
   any r f h is =
       by-order (r + 1) (tablesOf q .height)
       (λ more. (state (r + 1), followed r f more is))
@@ -72,13 +72,13 @@ module _ (q : Parts) (e : judgeOf q ≡ Accepted) where
       (state r, legal-step (state r) (state r) f (rw (← same) at (run .stays)) is))
 
   module _ (r x j bound : ℕ) (c : RangeCheck (givenOf q) (tablesOf q) r x j bound) where
-    one : Told m (state r) (state (r + 1)) (derefOf x (c .firstC))
+    one : LegalAs m (state r) (state (r + 1)) (derefOf x (c .firstC))
     one = let h = c .inside in followed r (derefOf x (c .firstC)) (omega arith) (ap formIn (c .first))
 
-    two : Told m (state (r + 1)) (state (r + 1 + 1)) (addOf x j (bound - 1))
+    two : LegalAs m (state (r + 1)) (state (r + 1 + 1)) (addOf x j (bound - 1))
     two = let h = c .inside in followed (r + 1) (addOf x j (bound - 1)) (omega arith) (ap formIn (c .second))
 
-    three : (t : State) × Told m (state (r + 2)) t (derefOf j (c .lastC))
+    three : (t : State) × LegalAs m (state (r + 2)) t (derefOf j (c .lastC))
     three = any (r + 2) (derefOf j (c .lastC)) (c .inside) (ap formIn (c .last))
 
     next-frame : tablesOf q .exec (r + 1) .fp ≡ tablesOf q .exec r .fp
@@ -94,7 +94,7 @@ module _ (q : Parts) (e : judgeOf q ≡ Accepted) where
     abbrev cellAt : ℕ → ℕ
     cellAt offset = givenOf q .cell (cellChecked q r offset)
 
-    named : (s t : State) (offset : ℕ) (other : Operand) → s .fp ≡ tablesOf q .exec r .fp → Told m s t (derefOf offset other)
+    named : (s t : State) (offset : ℕ) (other : Operand) → s .fp ≡ tablesOf q .exec r .fp → LegalAs m s t (derefOf offset other)
         → (cellChecked q r offset < givenOf q .size) × (cellAt offset < givenOf q .size)
     named s t offset other frame l =
         let f = fit q (accepted-satisfies q e) in
@@ -118,12 +118,13 @@ module _ (q : Parts) (e : judgeOf q ≡ Accepted) where
         let left = named (state r) (state (r + 1)) x (c .firstC) refl one in
         let right = named (state (r + 2)) (three .0) j (c .lastC) last-frame (three .1) in
         let sums : cellAt x +ₚ cellAt j ≡ bound - 1 = rw next-frame at (two .1 .0) in
-        let (below, most) = below-sum (cellAt x) (cellAt j) (givenOf q .size) bound (left .1) (right .1) (fit q (accepted-satisfies q e) .small) sums (c .some) in
+        let (below, most, most-cells) = below-sum (cellAt x) (cellAt j) (givenOf q .size) bound (left .1) (right .1) (fit q (accepted-satisfies q e) .small) sums (c .some) in
         let address = a-columns .at in
         record {
           exists = left .0;
           below = below;
-          most = most;
+          small = left .1;
+          most = (most, most-cells);
           address = address;
           value = a-columns .looked .holds ∙ ap (givenOf q .cell) address;
         }

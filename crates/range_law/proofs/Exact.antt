@@ -13,7 +13,7 @@ use Rattle.form.specs.Data.{readData}
 use Rattle.form.specs.Opcodes.{isCall}
 use Rattle.form.specs.declared.Instruction.{Instruction}
 use Rattle.form.specs.declared.Mode.{Mode}
-use Rattle.form.specs.declared.Mode.the-variants.{Immediate, Cell, Frame}
+use Rattle.form.specs.declared.Mode.the-variants.{Immediate, Cell}
 use Rattle.form.specs.declared.Operand.{Operand}
 use Rattle.form.specs.declared.Kind.the-variants.{Add, Deref}
 use Rattle.form.specs.declared.Decoded.the-variants.{Well}
@@ -22,24 +22,19 @@ use Rattle.range_spec.specs.RangeCheck.{derefOf, addOf}
 use Rattle.range_spec.specs.Finds.{derefs, adds}
 
 -- the flags of an operand, by its mode
-abbrev code : Mode → ℕ
-code Immediate = 0
-code Cell = 1
-code Frame = 2
-
 module _ (flag fp word : ℕ) where
   is-immediate : operandOf flag fp word .mode ≡ Immediate → flag ≡ 1
   is-immediate =
       by-test (λ (m : Mode). m ≡ Immediate → flag ≡ 1) (eqb flag 1) (λ t _. eqb-true flag 1 t)
       (λ _.
-      by-test (λ (m : Mode). m ≡ Immediate → flag ≡ 1) (eqb fp 1) (λ _ e. absurd (omega (arith, ap code e)))
-      (λ _ e. absurd (omega (arith, ap code e))))
+      by-test (λ (m : Mode). m ≡ Immediate → flag ≡ 1) (eqb fp 1) (λ _ e. absurd (let z : _≡_ {A = ℕ} 0 1 = cc in omega arith))
+      (λ _ e. absurd (let z : _≡_ {A = ℕ} 0 1 = cc in omega arith)))
 
   is-cell : flag + fp ≤ 1 → operandOf flag fp word .mode ≡ Cell → (flag ≡ 0) × (fp ≡ 0)
   is-cell few =
-      by-test (λ (m : Mode). m ≡ Cell → (flag ≡ 0) × (fp ≡ 0)) (eqb flag 1) (λ _ e. absurd (omega (arith, ap code e)))
+      by-test (λ (m : Mode). m ≡ Cell → (flag ≡ 0) × (fp ≡ 0)) (eqb flag 1) (λ _ e. absurd (let z : _≡_ {A = ℕ} 0 1 = cc in omega arith))
       (λ f.
-      by-test (λ (m : Mode). m ≡ Cell → (flag ≡ 0) × (fp ≡ 0)) (eqb fp 1) (λ _ e. absurd (omega (arith, ap code e)))
+      by-test (λ (m : Mode). m ≡ Cell → (flag ≡ 0) × (fp ≡ 0)) (eqb fp 1) (λ _ e. absurd (let z : _≡_ {A = ℕ} 0 1 = cc in omega arith))
       (λ g _. let no-flag = eqb-false flag 1 f in let no-fp = eqb-false fp 1 g in (omega arith, omega arith)))
 
 module _ (i : Instruction) where

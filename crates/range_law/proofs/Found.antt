@@ -3,7 +3,7 @@
 use mathlib.Core.Path.{_≡_, ap, _∙_}
 use mathlib.Core.Bool.{true}
 use mathlib.Core.List.{[], _∷_}
-use Prim.Native.Nat.{ℕ, _+_, _-_, _<_, _^_}
+use Prim.Native.Nat.{ℕ, _+_, _-_, _<_}
 use native.Mathlib.Omega.{arith}
 use Rattle.word.proofs.Tests.{each}
 use Rattle.form.specs.declared.Instruction.{Instruction}
@@ -12,9 +12,7 @@ use Rattle.answer.specs.declared.Answer.the-variants.{Accepted}
 use Rattle.rules.specs.Bus.{instructionOf}
 use Rattle.rules.specs.Sizes.{Parts, givenOf, tablesOf}
 use Rattle.judge_spec.specs.Judged.{judgeOf}
-use Rattle.judge_spec.proofs.Exactly.{accepted-satisfies}
-use Rattle.judge_spec.proofs.AcceptedRows.{pc-in-program, row-formed}
-use Rattle.run.proofs.Words.{fit}
+use Rattle.judge_spec.proofs.AcceptedRows.{row-formed}
 use Rattle.range_spec.specs.RangeCheck.{addOf}
 use Rattle.range_spec.specs.Finds.{derefs, adds, foundAt, boundAt}
 use Rattle.range_law.specs.Ranges.{IsRangeCheck}
@@ -55,10 +53,3 @@ module _ (q : Parts) (e : judgeOf q ≡ Accepted) where
       let last = form-derefs (row (r + 2)) j (c .lastC) (c .last) in
       let some = c .some in
       (rw (a, third, first, second, last), omega (arith, b))
-
-  -- a bound fits in 32 bits
-  pub bound-small : (r : ℕ) → r + 2 < tablesOf q .height → boundAt (givenOf q) (tablesOf q) r < 2 ^ 32
-  unfolding boundAt
-  bound-small r h =
-      let word = fit q (accepted-satisfies q e) .operands _ (pc-in-program q e (r + 1) (omega arith)) .b in
-      omega arith

@@ -1,7 +1,5 @@
 pub mod Exact
 pub mod Below
-pub mod Written
 pub mod Found
 pub mod Listed
-pub mod Answers
 pub mod Ranges

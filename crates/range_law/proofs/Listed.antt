@@ -3,7 +3,7 @@
 use mathlib.Core.Path.{_≡_, _∙_}
 use mathlib.Core.Bool.{true}
 use mathlib.Core.List.{List, _++_}
-use Prim.Native.Nat.{ℕ, _+_, _-_, _*_, _≤_, _<_}
+use Prim.Native.Nat.{ℕ, _+_, _-_, _<_}
 use native.Mathlib.Omega.{arith}
 use lib.ListN.{length}
 use Rattle.word.proofs.Tests.{by-order}
@@ -15,18 +15,9 @@ use Rattle.judge_spec.proofs.Exactly.{accepted-satisfies}
 use Rattle.judge_spec.proofs.Lengths.{whole}
 use Rattle.range_spec.specs.Finds.{foundAt, boundAt, numberBelow, firstRows, allFinds, findsNumber}
 use Rattle.range_law.specs.Ranges.{IsRangeCheck, rowIn, boundIn, Lists}
-use Rattle.range_law.proofs.Found.{found-check, check-found, bound-small}
-use Rattle.range_law.proofs.Written.{eight-each, number-grows, number-next, number-most, stands, place}
-
--- 8 bytes a find
-pub finds-length : (g : Given) (t : Tables) → length (allFinds g t) ≡ 8 * findsNumber g t
-unfolding allFinds findsNumber
-finds-length g t = eight-each (foundAt g t) (boundAt g t) (firstRows t)
-
--- and no more of them than rows that two more follow
-pub finds-most : (g : Given) (t : Tables) → findsNumber g t ≤ firstRows t
-unfolding findsNumber
-finds-most g t = number-most (foundAt g t) (boundAt g t) (firstRows t)
+use Rattle.range_law.proofs.Found.{found-check, check-found}
+use Rattle.range_finds.proofs.All.{bound-small}
+use Rattle.range_finds.proofs.Written.{number-grows, number-next, stands, place}
 
 module _ (q : Parts) where
   abbrev g : Given

@@ -7,6 +7,7 @@
 use Prim.Native.Nat.{ℕ, _+_, _-_, _*_, _≤_, _<_}
 use mathlib.Core.Path.{_≡_}
 use mathlib.Core.List.{List}
+use mathlib.Core.Logic.{_⊎_}
 use lib.ListN.{length, getD}
 use Rattle.word.specs.Word.{p, _+ₚ_}
 use Rattle.word.specs.Bytes.{wordAt}
@@ -20,12 +21,13 @@ use Rattle.range_spec.specs.Finder.{rangesAnswer, rangesFound, findsLeft}
 abbrev pub cellChecked : Parts → ℕ → ℕ → ℕ
 cellChecked q r x = tablesOf q .exec r .fp +ₚ x
 
--- it is one of the memory's, and holds a word below the bound; the bound is at most p. Row r has the cell's number and
--- word as addr A and value A
+-- it is one of the memory's, and holds a word below the bound, and below M; the bound is at most p, and below 2M. Row r
+-- has the cell's number and word as addr A and value A
 pub record Bounded (q : Parts) (r x bound : ℕ) : Type 0 where
   pub exists : cellChecked q r x < givenOf q .size
   pub below : givenOf q .cell (cellChecked q r x) < bound
-  pub most : bound ≤ p
+  pub small : givenOf q .cell (cellChecked q r x) < givenOf q .size
+  pub most : (bound ≤ p) × (bound < 2 * givenOf q .size)
   pub address : tablesOf q .exec r .addrA ≡ cellChecked q r x
   pub value : tablesOf q .exec r .valueA ≡ givenOf q .cell (cellChecked q r x)
 
@@ -60,11 +62,13 @@ pub record Ranges : Type 0 where
   pub length-kept : (q : Parts) (finds : List ℕ) → length (findsLeft q finds) ≡ length finds
   -- what the judge refuses is refused so
   pub judge-first : (q : Parts) (room : ℕ) → (judgeOf q ≡ Accepted → ⊥) → rangesAnswer q room ≡ judgeOf q
+  -- and where it accepts, nothing but LIST is left to refuse with
+  pub accepted-or-list : (q : Parts) (room : ℕ) → judgeOf q ≡ Accepted → (rangesAnswer q room ≡ Accepted) ⊎ ((n : ℕ) × (rangesAnswer q room ≡ ListShort n))
   -- LIST: the buffer was too short, 8 bytes for each of its place are enough, and then there are so many finds
   pub list-place : (q : Parts) (room n : ℕ) → rangesAnswer q room ≡ ListShort n
       → (room < 8 * n) × (rangesAnswer q (8 * n) ≡ Accepted) × (rangesFound q (8 * n) ≡ n)
   -- a buffer of 8 bytes for each row that two more follow is always enough
-  pub most : (q : Parts) → judgeOf q ≡ Accepted → rangesAnswer q (8 * (tablesOf q .height - 2)) ≡ Accepted
+  pub always-enough : (q : Parts) → judgeOf q ≡ Accepted → rangesAnswer q (8 * (tablesOf q .height - 2)) ≡ Accepted
   -- a refusal gives no number and changes no byte
   pub refused : (q : Parts) (finds : List ℕ) → (rangesAnswer q (length finds) ≡ Accepted → ⊥)
       → (rangesFound q (length finds) ≡ 0) × (findsLeft q finds ≡ finds)

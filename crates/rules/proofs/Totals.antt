@@ -6,7 +6,7 @@ use Prim.Native.Nat.{ℕ, zero, suc, _+_, _-_, _≤_, _<_}
 use native.Mathlib.Nat.{add-zero, add-suc}
 use native.Mathlib.Numerals.{add-one}
 use native.Mathlib.Omega.{arith}
-use Rattle.word.proofs.Tests.{by-equal}
+use Rattle.word.proofs.Tests.{by-equal, by-test}
 use Rattle.rules.specs.Bus.{total}
 
 -- a row more
@@ -29,6 +29,12 @@ total-same f h (suc n) e = omega (arith, e n (omega arith), total-same f h n (λ
 pub total-zero : (f : ℕ → ℕ) (n : ℕ) → ((r : ℕ) → r < n → f r ≡ 0) → total f n ≡ 0
 total-zero f zero none = refl
 total-zero f (suc n) none = omega (arith, none n (omega arith), total-zero f n (λ r h. none r (omega arith)))
+
+-- rows that count once where a test holds count at most once each
+pub total-most : (test : ℕ → Bool) (n : ℕ) → total (λ r. cond (test r) 1 0) n ≤ n
+total-most test zero = omega arith
+total-most test (suc n) =
+    omega (arith, total-most test n, by-test (λ (x : ℕ). x ≤ 1) (test n) {x = 1} {y = 0} (λ _. omega arith) (λ _. omega arith))
 
 -- k rows, and n more
 pub total-split : (f : ℕ → ℕ) (k n : ℕ) → total f (k + n) ≡ total f k + total (λ j. f (k + j)) n

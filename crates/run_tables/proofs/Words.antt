@@ -12,6 +12,7 @@ use Rattle.word.specs.Word.{IsWord}
 use Rattle.word.specs.Bytes.{wordAt, bytesOf, concatenated}
 use Rattle.word.specs.Element.{IsElement}
 use Rattle.word.proofs.FourBytes.{read-bytes}
+use Rattle.word.proofs.Part.{word-behind}
 use Rattle.rows.specs.declared.Exec.{Exec}
 use Rattle.rows.specs.declared.Ext.{Ext}
 use Rattle.rows.specs.Rows.{bytesOfWords, execWords, fiveWords, extWords}
@@ -74,16 +75,13 @@ unfolding concatenated bytesOfWords
 rows-bytes row zero = refl
 rows-bytes row (suc n) = ap (λ (l : List ℕ). l ++ bytesOfWords (row n)) (rows-bytes row n) ∙ sym (bytes-joined (concatenated row n) (row n))
 
-word-behind : (w : ℕ) (s : List ℕ) (at : ℕ) → wordAt (bytesOf w ++ s) (4 + at) ≡ wordAt s at
-word-behind w s at = simp (add-assoc, getD-append-add (bytesOf w) s)
-
 words-read : (ws : List ℕ) → AllWords ws → (k : ℕ) → wordAt (bytesOfWords ws) (4 * k) ≡ getD ws k 0
 unfolding bytesOfWords
 words-read [] a k = refl
 words-read (w ∷ ws) a zero = read-bytes w (omega (arith, a .0))
 words-read (w ∷ ws) a (suc k) =
     let next : 4 * suc k ≡ 4 + 4 * k = omega arith in
-    rw next (word-behind w (bytesOfWords ws) (4 * k) ∙ words-read ws (a .1) k)
+    rw next (word-behind (bytesOf w) (bytesOfWords ws) (4 * k) ∙ words-read ws (a .1) k)
 
 -- every word of the bytes of rows of words is below p
 pub rows-read : (row : ℕ → List ℕ) (n : ℕ) → ((r : ℕ) → r < n → AllWords (row r)) → (k : ℕ)

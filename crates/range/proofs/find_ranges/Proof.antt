@@ -32,7 +32,8 @@ put-finds-requires c κs =
     let q : Parts = partsOf (s .program .now) (s .memory .now) (s .pc) (s .fp) (s .exec .now) (s .ext .now) in
     let told = c .before .before .before .before .before .judge .ensures in
     let yes = sym (c .before .before .before .before .accepted .ensures) ∙ not-false _ (c .before .before .before .if1 .left) in
-    (ready q (s .finds .now) _ told yes, room q (s .finds .now) _ told yes _ (c .before .before .count-finds .ensures .0) (c .before .if2 .left))
+    let counted = c .before .before .count-finds .ensures .0 in
+    (ready q (s .finds .now) _ told yes, (counted, room q (s .finds .now) _ told yes _ counted (c .before .if2 .left)))
 
 returns-3 : tie.Need-returns-3
 returns-3 c =

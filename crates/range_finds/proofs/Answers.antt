@@ -11,7 +11,7 @@ use Rattle.answer.specs.declared.Answer.the-variants.{Accepted, ListShort}
 use Rattle.rules.specs.Sizes.{Parts, givenOf, tablesOf}
 use Rattle.judge_spec.specs.Judged.{judgeOf}
 use Rattle.range_spec.specs.Finds.{allFinds}
-use Rattle.range_spec.specs.Finder.{findsIn, rangesAnswer, rangesFound, findsLeft}
+use Rattle.range_spec.specs.Finder.{findsNumberIn, rangesAnswer, rangesFound, findsLeft}
 
 module _ (q : Parts) where
   pub judge-refuses : (room : ℕ) → accepted (judgeOf q) ≡ false → rangesAnswer q room ≡ judgeOf q
@@ -19,20 +19,20 @@ module _ (q : Parts) where
   judge-refuses room f = rw f
 
   module _ (yes : accepted (judgeOf q) ≡ true) (room : ℕ) where
-    pub fits : 8 * findsIn q ≤ room → rangesAnswer q room ≡ Accepted
+    pub fits : 8 * findsNumberIn q ≤ room → rangesAnswer q room ≡ Accepted
     unfolding rangesAnswer
-    fits h = rw (yes, le-leb (8 * findsIn q) room h)
+    fits h = rw (yes, le-leb (8 * findsNumberIn q) room h)
 
-    pub too-short : room < 8 * findsIn q → rangesAnswer q room ≡ ListShort (findsIn q)
+    pub too-short : room < 8 * findsNumberIn q → rangesAnswer q room ≡ ListShort (findsNumberIn q)
     unfolding rangesAnswer
-    too-short h = rw (yes, lt-leb (8 * findsIn q) room h)
+    too-short h = rw (yes, lt-leb (8 * findsNumberIn q) room h)
 
-  pub number-given : (room : ℕ) → rangesAnswer q room ≡ Accepted → rangesFound q room ≡ findsIn q
+  pub number-given : (room : ℕ) → rangesAnswer q room ≡ Accepted → rangesFound q room ≡ findsNumberIn q
   unfolding rangesFound
   number-given room e = rw e
 
   pub finds-given : (buffer : List ℕ) → rangesAnswer q (length buffer) ≡ Accepted
-      → findsLeft q buffer ≡ allFinds (givenOf q) (tablesOf q) ++ drop (8 * findsIn q) buffer
+      → findsLeft q buffer ≡ allFinds (givenOf q) (tablesOf q) ++ drop (8 * findsNumberIn q) buffer
   unfolding findsLeft
   finds-given buffer e = rw e
 

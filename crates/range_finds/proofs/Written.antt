@@ -1,35 +1,27 @@
 -- Where the finds of some rows stand: that of row r at as many finds as there are before it, and each place below their
 -- number is a row's. Over any test of rows and any bounds.
 -- Assumes nothing.
-use mathlib.Core.Path.{_≡_, refl, ap, _∙_}
+use mathlib.Core.Path.{_≡_, refl, sym, ap, _∙_}
 use mathlib.Core.Bool.{Bool, true, cond}
-use mathlib.Core.List.{List, [], _∷_, _++_, append-assoc}
+use mathlib.Core.List.{List, [], _∷_, _++_, append-assoc, append-nil}
 use Prim.Native.Nat.{ℕ, zero, suc, _+_, _-_, _*_, _≤_, _<_, _^_}
-use native.Mathlib.Nat.{add-assoc, add-zero}
+use native.Mathlib.Nat.{add-zero}
 use native.Mathlib.Omega.{arith}
-use lib.ListN.{length, getD, length-append}
-use lib.Seq.{getD-append-add}
+use lib.ListN.{length, length-append, drop-of-length-le}
 use Rattle.word.specs.Bytes.{wordAt, concatenated}
 use Rattle.word.proofs.Concatenated.{parts-append, parts-one}
 use Rattle.word.proofs.FourBytes.{read-bytes}
-use Rattle.word.proofs.Tests.{cases, by-order, by-test}
+use Rattle.word.proofs.Part.{word-behind}
+use Rattle.word.proofs.Tests.{cases, by-order}
 use Rattle.rows.specs.Rows.{bytesOfWords}
 use Rattle.rules.specs.Bus.{total}
 use Rattle.rules.proofs.Totals.{one-more, total-split}
 
--- a word behind some bytes
-word-behind : (xs ys : List ℕ) (j : ℕ) → wordAt (xs ++ ys) (length xs + j) ≡ wordAt ys j
-word-behind xs ys j =
-    rw (getD-append-add xs ys j 0, next 1, next 2, next 3)
-  where
-    next : (i : ℕ) → getD (xs ++ ys) (length xs + j + i) 0 ≡ getD ys (j + i) 0
-    next i = ap (λ (m : ℕ). getD (xs ++ ys) m 0) (add-assoc (length xs) j i) ∙ getD-append-add xs ys (j + i) 0
-
 -- two words that stand first
-two-words : (x y : ℕ) (rest : List ℕ) → x < 2 ^ 32 → y < 2 ^ 32
+two-read : (x y : ℕ) (rest : List ℕ) → x < 2 ^ 32 → y < 2 ^ 32
     → (wordAt (bytesOfWords (x ∷ y ∷ []) ++ rest) 0 ≡ x) × (wordAt (bytesOfWords (x ∷ y ∷ []) ++ rest) 4 ≡ y)
 unfolding bytesOfWords
-two-words x y rest hx hy = (read-bytes x hx, read-bytes y hy)
+two-read x y rest hx hy = (read-bytes x hx, read-bytes y hy)
 
 module _ (found : ℕ → Bool) (bound : ℕ → ℕ) where
   abbrev part : ℕ → List ℕ
@@ -60,11 +52,14 @@ module _ (found : ℕ → Bool) (bound : ℕ → ℕ) where
   pub number-next : (r : ℕ) → found r ≡ true → number (r + 1) ≡ number r + 1
   number-next r t = one-more (λ r. cond (found r) 1 0) r ∙ rw t
 
-  -- a row is one find at most
-  pub number-most : (n : ℕ) → number n ≤ n
-  number-most zero = omega arith
-  number-most (suc n) =
-      omega (arith, number-most n, by-test (λ (x : ℕ). x ≤ 1) (found n) {x = 1} {y = 0} (λ _. omega arith) (λ _. omega arith))
+  -- rows among which there is no find more have no more bytes
+  pub same-bytes : (k n : ℕ) → k ≤ n → number k ≡ number n → bytes k ≡ bytes n
+  same-bytes k n h e =
+      let more : List ℕ = concatenated (λ j. part (k + j)) (n - k) in
+      let whole : k + (n - k) ≡ n = omega arith in
+      let split : bytes n ≡ bytes k ++ more = ap bytes (sym whole) ∙ parts-append part k (n - k) in
+      let none : more ≡ [] = drop-of-length-le more {i = 0} (omega (arith, ap length split, length-append (bytes k) more, eight-each k, eight-each n)) in
+      sym (split ∙ rw none (append-nil (bytes k)))
 
   -- the find of row r
   pub stands : (n r : ℕ) (rest : List ℕ) → r < n → found r ≡ true → r < 2 ^ 32 → bound r < 2 ^ 32
@@ -77,7 +72,7 @@ module _ (found : ℕ → Bool) (bound : ℕ → ℕ) where
       ap bytes e ∙ parts-append part (r + 1) (n - (r + 1)) ∙ ap (λ (l : List ℕ). l ++ more) (parts-one part r ∙ ap (λ (l : List ℕ). bytes r ++ l) own) in
       let whole : bytes n ++ rest ≡ bytes r ++ (bytesOfWords (r ∷ bound r ∷ []) ++ (more ++ rest)) =
       ap (λ (l : List ℕ). l ++ rest) split ∙ regroup (bytes r) (bytesOfWords (r ∷ bound r ∷ [])) more rest in
-      let (first, second) = two-words r (bound r) (more ++ rest) small bounded in
+      let (first, second) = two-read r (bound r) (more ++ rest) small bounded in
       let at : (j : ℕ) → wordAt (bytes n ++ rest) (8 * number r + j) ≡ wordAt (bytesOfWords (r ∷ bound r ∷ []) ++ (more ++ rest)) j =
       λ j. rw (whole, ← eight-each r) (word-behind (bytes r) _ j) in
       ((rw (add-zero (8 * number r)) at (at 0)) ∙ first, at 4 ∙ second)

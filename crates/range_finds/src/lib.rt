@@ -1,0 +1,1 @@
+// Laws of finds that the finder stands on, and `range_law` too: proofs/, no function.
