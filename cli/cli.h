@@ -1,6 +1,6 @@
 /* What the files of the command share. Every judgement is the library's: nothing here tests a rule. (Of what it
- * refused, edition.c says why an instruction was, lookups.c which cell a lookup was of, and expected.c what a listing
- * lacks.) */
+ * refused, edition.c says why an instruction was, lookups.c which cell a lookup was of, split.c which of two lengths
+ * was bad, and expected.c what a listing lacks.) */
 #ifndef CLI_H
 #define CLI_H
 
@@ -27,8 +27,10 @@ struct bytes {
     size_t len;
 };
 
+/* where the memory comes in two files, the public words stand apart, and the part is the rest */
 struct given {
-    struct bytes part[LAYOUTS];
+    struct bytes part[LAYOUTS], public;
+    bool split; /* it does, though there be no public words */
     uint64_t pc, fp;
 };
 
@@ -61,8 +63,8 @@ int take_seed(const char *text, uint64_t *found);
 struct request {
     const char *name, *takes; /* the subcommand, and its files as a sentence names them */
     int grids;                /* how many files stand before the tables: count's grid */
-    bool pastes;              /* it has the option --paste */
-    const char *files[PARTS];
+    bool pastes, splits;      /* it has the options --paste and --public */
+    const char *files[PARTS], *public;
     int count;
     bool paste;
     struct given given;
@@ -109,11 +111,17 @@ uint64_t total_of(const uint8_t grid[UISNABAR_GRID_BYTES]);
 struct reach reach_of(const uint8_t grid[UISNABAR_GRID_BYTES]);
 void print_missing(FILE *out, const uint8_t grid[UISNABAR_GRID_BYTES]);
 
-/* sum.c: the SHA-256 of some bytes by the system's sha256sum; 0, or FAILED with the sentence said */
+/* sum.c: the SHA-256 of each part by the system's sha256sum; 0, or FAILED with the sentence said */
 enum { SUM_DIGITS = 64 };
-int sum_of(struct bytes bytes, char digits[SUM_DIGITS + 1]);
+typedef char sum[SUM_DIGITS + 1];
+struct sums {
+    sum part[PARTS];  /* of a memory in two files, as if they were joined */
+    sum public, rest; /* of these two, where there are two */
+};
+int sum_parts(const struct given *given, struct sums *sums);
 
-/* layout.c: the rows and columns of document 01, "Layouts", and of draft 0.5.0, 3.1.3 */
+/* layout.c: the rows and columns of document 01, "Layouts", and of draft 0.5.0, 3.1.3; a memory in two files as if
+ * they were joined */
 struct layout {
     const char *part, *row; /* what the part and a row of it are called */
     unsigned words;         /* words in a row */
@@ -122,6 +130,8 @@ struct layout {
 extern const struct layout layouts[LAYOUTS];
 uint32_t word_at(const uint8_t *at);
 uint32_t word_of(struct bytes part, size_t place);
+uint32_t word_in(const struct given *given, uint32_t part, size_t place);
+size_t bytes_in(const struct given *given, uint32_t part);
 size_t rows_of(const struct given *given, uint32_t part);
 void column_name(uint32_t part, size_t place, char name[32]);
 void print_row(FILE *out, const struct given *given, uint32_t part, size_t row);
@@ -148,7 +158,12 @@ void expected_sentence(FILE *out, struct bytes text, size_t place);
 /* lookups.c: how the judge's sentence ends where it is of a lookup: which cell, and which column; else nothing */
 void lookup_sentence(FILE *out, const struct given *given, struct answer answer);
 
+/* split.c: of a memory in two files, what is wrong with their lengths; and how a sentence of a cell ends, which says in
+ * which of them it stands; of a memory in one file, nothing */
+void lengths_sentence(FILE *out, const struct given *given);
+void cell_sentence(FILE *out, const struct given *given, size_t cell);
+
 /* paste.c: the text to send in a dispute */
-void print_paste(FILE *out, const struct given *given, struct answer answer, char sums[PARTS][SUM_DIGITS + 1]);
+void print_paste(FILE *out, const struct given *given, struct answer answer, const struct sums *sums);
 
 #endif

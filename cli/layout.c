@@ -37,9 +37,19 @@ uint32_t word_of(struct bytes part, size_t place)
     return place < part.len / 4 ? word_at(part.at + 4 * place) : 0;
 }
 
+static size_t before(const struct given *given, uint32_t part) { return part == MEMORY ? given->public.len : 0; }
+
+uint32_t word_in(const struct given *given, uint32_t part, size_t place)
+{
+    size_t public = before(given, part) / 4;
+    return place < public ? word_of(given->public, place) : word_of(given->part[part], place - public);
+}
+
+size_t bytes_in(const struct given *given, uint32_t part) { return before(given, part) + given->part[part].len; }
+
 size_t rows_of(const struct given *given, uint32_t part)
 {
-    return given->part[part].len / 4 / layouts[part].words;
+    return bytes_in(given, part) / 4 / layouts[part].words;
 }
 
 /* the name of the column that a word of a part stands in, with its coordinate where the column is an element */
@@ -63,7 +73,7 @@ void print_row(FILE *out, const struct given *given, uint32_t part, size_t row)
     fprintf(out, "%s %zu:", layouts[part].row, row);
     for (size_t place = first; place < first + layouts[part].words; place++) {
         column_name(part, place, name);
-        fprintf(out, "%s %s=%u", place == first ? "" : ",", name, word_of(given->part[part], place));
+        fprintf(out, "%s %s=%u", place == first ? "" : ",", name, word_in(given, part, place));
     }
     fputc('\n', out);
 }

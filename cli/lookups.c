@@ -24,10 +24,10 @@ static const struct lookup *lookup_of(struct answer answer)
 }
 
 /* the first word that is not its cell's; that one isn't, the library said, so the last where all before it are */
-static unsigned differing(struct bytes memory, size_t cell, struct bytes table, size_t word, unsigned count)
+static unsigned differing(const struct given *given, size_t cell, struct bytes table, size_t word, unsigned count)
 {
     unsigned at = 0;
-    while (at + 1 < count && word_of(memory, cell + at) == word_of(table, word + at))
+    while (at + 1 < count && word_in(given, MEMORY, cell + at) == word_of(table, word + at))
         at++;
     return at;
 }
@@ -46,15 +46,16 @@ void lookup_sentence(FILE *out, const struct given *given, struct answer answer)
     const struct lookup *lookup = lookup_of(answer);
     if (!lookup)
         return;
-    struct bytes memory = given->part[MEMORY], table = given->part[answer.part];
+    struct bytes table = given->part[answer.part];
     size_t row = (size_t)answer.place * layouts[answer.part].words, word = row + lookup->word;
     size_t cell = word_of(table, row + lookup->cell);
     if (answer.expected == 0 && answer.found == 0) {
         range_sentence(out, cell, lookup->count, rows_of(given, MEMORY));
         return;
     }
-    unsigned at = differing(memory, cell, table, word, lookup->count);
+    unsigned at = differing(given, cell, table, word, lookup->count);
     char name[32];
     column_name(answer.part, word + at, name);
     fprintf(out, "; cell %zu holds %u, %s is %u", cell + at, answer.expected, name, answer.found);
+    cell_sentence(out, given, cell + at);
 }

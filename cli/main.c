@@ -13,6 +13,7 @@
 static const char help[] =
     "usage: uisnabar judge [--pc N] [--fp N] [--paste] PROGRAM MEMORY EXEC EXT\n"
     "       uisnabar judge [--pc N] [--fp N] [--paste] TABLES\n"
+    "       uisnabar judge --public FILE [--pc N] [--fp N] [--paste] PROGRAM REST EXEC EXT\n"
     "       uisnabar count GRID [--pc N] [--fp N] PROGRAM MEMORY EXEC EXT\n"
     "       uisnabar count GRID [--pc N] [--fp N] TABLES\n"
     "       uisnabar report GRID\n"
@@ -32,6 +33,8 @@ static const char help[] =
     "          --pc N, --fp N   the start, decimal; 0 where it is not given\n"
     "          --paste          also prints a text to send in a dispute: version, size and SHA-256 of each part (by the\n"
     "                           system's sha256sum), start, answer, the row and its successor, the instruction\n"
+    "          --public FILE    a memory in two files: FILE has its first 2^m' words, the public ones, m' from 0 to m - 1,\n"
+    "                           and REST the other 2^m - 2^m'. The answer is that of the two joined\n"
     "count   Judges as judge does. Where it accepts, each execution row adds one to its instruction's form in GRID, a file\n"
     "        of 1080 bytes that is made where there is none. GRID is replaced whole, and only with status 0. Counts into one\n"
     "        grid wait for one another, and .GRID.counting stands beside it meanwhile; the next takes over a killed one's.\n"

@@ -38,11 +38,27 @@ static void print_place(FILE *out, const struct given *given, struct answer answ
     }
 }
 
-void print_paste(FILE *out, const struct given *given, struct answer answer, char sums[PARTS][SUM_DIGITS + 1])
+static void print_sum(FILE *out, const char *what, size_t len, const sum digits)
+{
+    fprintf(out, "%s: %zu bytes, sha256 %s\n", what, len, digits);
+}
+
+/* a memory in two files has the line that it has as one, so that either can be compared with it, and then theirs */
+static void print_sums(FILE *out, const struct given *given, const struct sums *sums)
+{
+    for (uint32_t part = PROGRAM; part < PARTS; part++) {
+        print_sum(out, layouts[part].part, bytes_in(given, part), sums->part[part]);
+        if (part == MEMORY && given->split) {
+            print_sum(out, "public words", given->public.len, sums->public);
+            print_sum(out, "rest of the memory", given->part[part].len, sums->rest);
+        }
+    }
+}
+
+void print_paste(FILE *out, const struct given *given, struct answer answer, const struct sums *sums)
 {
     fprintf(out, "uisnabar %s, %s\n", UISNABAR_VERSION, DRAFT);
-    for (uint32_t part = PROGRAM; part < PARTS; part++)
-        fprintf(out, "%s: %zu bytes, sha256 %s\n", layouts[part].part, given->part[part].len, sums[part]);
+    print_sums(out, given, sums);
     fprintf(out, "start: pc=%ju, fp=%ju\n", (uintmax_t)given->pc, (uintmax_t)given->fp);
     fprintf(out, "answer: %s, part=%u, place=%u, rule=%u, expected=%u, found=%u\n", uisnabar_name(answer.verdict), answer.part,
             answer.place, answer.rule, answer.expected, answer.found);

@@ -72,8 +72,19 @@ static void word_sentence(FILE *out, const struct given *given, struct answer an
     const struct layout *layout = &layouts[answer.part];
     char name[32];
     column_name(answer.part, answer.place, name);
-    fprintf(out, "word %u of the %s, %s of %s %u, is %u: a word must be below p = " P "\n", answer.place, layout->part, name, layout->row,
-            answer.place / layout->words, word_of(given->part[answer.part], answer.place));
+    fprintf(out, "word %u of the %s, %s of %s %u, is %u: a word must be below p = " P, answer.place, layout->part, name, layout->row,
+            answer.place / layout->words, word_in(given, answer.part, answer.place));
+    if (answer.part == MEMORY)
+        cell_sentence(out, given, answer.place);
+    fputc('\n', out);
+}
+
+static void size_sentence(FILE *out, const struct given *given, uint32_t part)
+{
+    if (part == MEMORY && given->split)
+        lengths_sentence(out, given);
+    else
+        fprintf(out, "the %s has %zu bytes, and must be %s\n", layouts[part].part, given->part[part].len, layouts[part].lengths);
 }
 
 static void start_sentence(FILE *out, const struct given *given)
@@ -95,10 +106,7 @@ void judge_sentence(FILE *out, const struct given *given, struct answer answer)
     fprintf(out, "%s: ", uisnabar_name(answer.verdict));
     switch (answer.verdict) {
     case UISNABAR_ACCEPTED: fputs("the tables satisfy the constraints of " DRAFT "\n", out); break;
-    case UISNABAR_SIZE:
-        fprintf(out, "the %s has %zu bytes, and must be %s\n", layouts[answer.part].part, given->part[answer.part].len,
-                layouts[answer.part].lengths);
-        break;
+    case UISNABAR_SIZE: size_sentence(out, given, answer.part); break;
     case UISNABAR_WORD: word_sentence(out, given, answer); break;
     case UISNABAR_INSTRUCTION:
         fprintf(out, "instruction %u of the program is malformed: docs/VERDICTS.md, \"Well-formed instructions\", says what it may be\n",

@@ -32,7 +32,7 @@ static bool hand_over(int to, struct bytes bytes)
 }
 
 /* its line to the end, which begins with the digits */
-static bool receive(int from, char digits[SUM_DIGITS + 1])
+static bool receive(int from, sum digits)
 {
     char line[4 * SUM_DIGITS] = "";
     size_t got = 0;
@@ -46,7 +46,8 @@ static bool receive(int from, char digits[SUM_DIGITS + 1])
     return strspn(line, "0123456789abcdef") == SUM_DIGITS;
 }
 
-int sum_of(struct bytes bytes, char digits[SUM_DIGITS + 1])
+/* of some bytes, and of others behind them */
+static int sum_of(struct bytes first, struct bytes then, sum digits)
 {
     int to[2], from[2], how = 0;
     if (pipe2(to, O_CLOEXEC) != 0 || pipe2(from, O_CLOEXEC) != 0)
@@ -58,7 +59,7 @@ int sum_of(struct bytes bytes, char digits[SUM_DIGITS + 1])
         become_sha256sum(to[0], from[1]);
     close(to[0]);
     close(from[1]);
-    bool sent = hand_over(to[1], bytes), lost = !sent && errno == EFAULT;
+    bool sent = hand_over(to[1], first) && hand_over(to[1], then), lost = !sent && errno == EFAULT;
     close(to[1]);
     bool received = receive(from[0], digits);
     close(from[0]);
@@ -67,4 +68,17 @@ int sum_of(struct bytes bytes, char digits[SUM_DIGITS + 1])
     if (sent && received && how == 0)
         return 0;
     return lost ? failed(LOST) : failed("--paste: sha256sum gave no sum");
+}
+
+int sum_parts(const struct given *given, struct sums *sums)
+{
+    const struct bytes none = {NULL, 0};
+    int status = 0;
+    for (int part = PROGRAM; part < PARTS && status == 0; part++)
+        status = sum_of(part == MEMORY ? given->public : none, given->part[part], sums->part[part]);
+    if (status == 0 && given->split)
+        status = sum_of(given->public, none, sums->public);
+    if (status == 0 && given->split)
+        status = sum_of(given->part[MEMORY], none, sums->rest);
+    return status;
 }

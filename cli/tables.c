@@ -1,4 +1,5 @@
-/* The tables that judge, count and ranges are handed: four files, or the one that the table program writes. */
+/* The tables that judge, count and ranges are handed: four files, or the one that the table program writes; judge's
+ * memory may be two. */
 #include <string.h>
 
 #include "cli.h"
@@ -15,6 +16,17 @@ static int add_file(struct request *request, const char *path)
     return 0;
 }
 
+static int take_public(struct request *request, const char *path)
+{
+    if (!path)
+        return failed("--public takes a file: the public words, which are the memory's first");
+    if (request->public)
+        return failed("--public stands twice, with \"%s\" and with \"%s\": one file has all public words", request->public, path);
+    request->public = path;
+    request->takes = "PROGRAM REST EXEC EXT with --public";
+    return 0;
+}
+
 static int parse(int count, char **words, struct request *request)
 {
     bool options = true;
@@ -28,19 +40,23 @@ static int parse(int count, char **words, struct request *request)
             status = take_number("--fp", ++i < count ? words[i] : "", &request->given.fp);
         else if (options && request->pastes && strcmp(words[i], "--paste") == 0)
             request->paste = true;
+        else if (options && request->splits && strcmp(words[i], "--public") == 0)
+            status = take_public(request, ++i < count ? words[i] : NULL);
         else if (options && words[i][0] == '-' && words[i][1])
             status = failed("%s has no option \"%s\": see uisnabar --help; a file of that name goes after --", request->name, words[i]);
         else
             status = add_file(request, words[i]);
     }
     int tables = request->count - request->grids;
+    if (status == 0 && tables == 1 && request->public)
+        return failed("--public goes with PROGRAM REST EXEC EXT: the memory in TABLES is whole");
     if (status == 0 && tables != 1 && tables != PARTS - 1)
         return failed("%s takes %s: %d files were handed in", request->name, request->takes, request->count);
     return status;
 }
 
 /* what the table program wrote, as its four parts; the library says what is wrong with the program's length */
-static int split(const char *path, struct bytes whole, struct given *given)
+static int cut(const char *path, struct bytes whole, struct given *given)
 {
     if (whole.len == 0)
         return failed("%s: empty: the table program writes nothing for a label that it refuses", path);
@@ -61,7 +77,11 @@ static int map_parts(struct request *request)
     int status = 0;
     if (request->count - request->grids == 1) {
         status = map_file(files[0], &whole);
-        return status ? status : split(files[0], whole, &request->given);
+        return status ? status : cut(files[0], whole, &request->given);
+    }
+    if (request->public) {
+        request->given.split = true;
+        status = map_file(request->public, &request->given.public);
     }
     for (int part = PROGRAM; part < PARTS && status == 0; part++)
         status = map_file(files[part - 1], &request->given.part[part]);

@@ -12,9 +12,10 @@
  * 2^24 + 1 = 2,130,706,433.
  *
  * Answers. The verdict is returned. The six numbers verdict, part, place, rule, expected and found are written to
- * `answer` in this order, 4 bytes each, little-endian; a number that a verdict does not name is 0. On ANSWER nothing is
- * written, so a driver looks at the returned verdict before it reads the buffer. docs/VERDICTS.md is the same table at
- * length.
+ * `answer`, UISNABAR_ANSWER_BYTES in every call, on every verdict but ANSWER: in this order, 4 bytes each,
+ * little-endian; a number that a verdict does not name is 0. Tests run in number order, but ANSWER first: `answer`,
+ * `grid`, `written`, `found`, `next` or `recipe` has another length than is named below. No buffer is written then, so
+ * a driver looks at the returned verdict before it reads one. docs/VERDICTS.md is the same table at length.
  *
  * Expected and found, bytes 16 to 19 and 20 to 23, are of lookups: EXEC with rule 2, 3 or 4, and EXTENSION with rule
  * 18, 19, 20 or 21. Where every cell that the rule looks up is below M, the number of cells, expected is the word that
@@ -29,7 +30,7 @@
 #include <stdint.h>
 
 /* The version of this header and of the library it was made for. */
-#define UISNABAR_VERSION "4.1.0"
+#define UISNABAR_VERSION "4.2.0"
 /* The length of `answer`, and of `recipe`. Later versions may ask for more: use these names, and no number. */
 #define UISNABAR_ANSWER_BYTES 24
 #define UISNABAR_RECIPE_BYTES 20
@@ -115,17 +116,31 @@ static inline const char *uisnabar_name(uint32_t verdict)
  *   exec     H rows of 32 bytes, H a power of two from 2^8 to 2^25: pc, fp, addr A, B, C, value A, B, C
  *   ext      K rows of 120 bytes, K a power of two from 2^8 to 2^20: start, add, mul, peq, len, idxA, idxB, idxR, be,
  *            vA base; then vA, vB, comp, res of five words each
- *   answer   UISNABAR_ANSWER_BYTES, written on every verdict but ANSWER
  *
- * Returns ACCEPTED, 1 to 7, or ANSWER where answer_len is another. Tests run in number order, ANSWER first.
- * Time grows with the bytes handed in where groups stand in execution order, as a tabler writes them. In other orders
- * it grows faster: of tables of the largest sizes that were chosen to be refused, the slowest that we know took five
- * and a half minutes (docs/DECISIONS.md, "The bus in the judge"). A driver that judges what strangers send may want to
- * bound its own time.
+ * Returns ACCEPTED, 1 to 7, or ANSWER. Time grows with the bytes handed in where groups stand in execution order, as a
+ * tabler writes them. In other orders it grows faster: of tables of the largest sizes that were chosen to be refused,
+ * the slowest that we know took five and a half minutes (docs/DECISIONS.md, "The bus in the judge"). A driver that
+ * judges what strangers send may want to bound its own time.
  */
 uint32_t uisnabar_judge(const uint8_t *program, size_t program_len, const uint8_t *memory, size_t memory_len,
                         uint64_t pc, uint64_t fp, const uint8_t *exec, size_t exec_len,
                         const uint8_t *ext, size_t ext_len, uint8_t *answer, size_t answer_len);
+
+/* The judge of a memory in two buffers, for drivers that hold the public words apart. Its answer, all six numbers, is
+ * uisnabar_judge's on the two joined, which is proved: WORD part 2 counts words as if joined, and five cells that are
+ * looked up may stand in both.
+ *
+ *   program, pc to ext   as the judge takes them
+ *   public_words         the first 2^m' words of the memory, m' from 0 to m - 1
+ *   rest                 its other 2^m - 2^m' words, m from 8 to 29
+ *
+ * Returns what the judge returns. Every other pair of lengths is SIZE part 2, even where the two join to a memory that
+ * the judge takes: no public words, no rest (m' is m), or 3 words and 253.
+ */
+uint32_t uisnabar_judge_split(const uint8_t *program, size_t program_len,
+                              const uint8_t *public_words, size_t public_len, const uint8_t *rest, size_t rest_len,
+                              uint64_t pc, uint64_t fp, const uint8_t *exec, size_t exec_len,
+                              const uint8_t *ext, size_t ext_len, uint8_t *answer, size_t answer_len);
 
 /* Form counts over a campaign: judges as uisnabar_judge does, and where it accepts adds to the grid one for each
  * execution row, to the counter of its instruction's form; halting rows too.
@@ -134,10 +149,8 @@ uint32_t uisnabar_judge(const uint8_t *program, size_t program_len, const uint8_
  *   grid     UISNABAR_GRID_BYTES: 135 counters of 8 bytes, little-endian; all zero in a fresh grid. Counter 27·kind +
  *            9·A + 3·B + C, kind: add 0, mul 1, deref 2, jump 3, extension 4; A, B, C, the operands' modes: immediate
  *            0, cell 1, fp-relative 2. Written on ACCEPTED alone, else as it was; it may hold anything
- *   answer   UISNABAR_ANSWER_BYTES, written on every verdict but ANSWER
  *
- * Returns the judge's verdict; GRID, tested last, where the sum of all counters and the rows would pass 2^63 - 1; or
- * ANSWER where grid_len or answer_len is another; nothing is written then.
+ * Returns the judge's verdict; GRID, where the sum of all counters and the rows would pass 2^63 - 1; or ANSWER.
  */
 uint32_t uisnabar_count(const uint8_t *program, size_t program_len, const uint8_t *memory, size_t memory_len,
                         uint64_t pc, uint64_t fp, const uint8_t *exec, size_t exec_len,
@@ -150,10 +163,8 @@ uint32_t uisnabar_count(const uint8_t *program, size_t program_len, const uint8_
  *   grid     as above; it may hold anything
  *   text     any length, at most UISNABAR_REPORT_BYTES are ever needed; bytes after the report keep what they held
  *   written  UISNABAR_WRITTEN_BYTES, little-endian: the report's length, 0 on SIZE
- *   answer   UISNABAR_ANSWER_BYTES, written on every verdict but ANSWER
  *
- * Returns ACCEPTED; SIZE part 5 with the bytes needed as place, and text as it was, where text_len is less; or ANSWER
- * where grid_len, written_len or answer_len is another; nothing is written then.
+ * Returns ACCEPTED; SIZE part 5 with the bytes needed as place, and text as it was, where text_len is less; or ANSWER.
  */
 uint32_t uisnabar_report(const uint8_t *grid, size_t grid_len, uint8_t *text, size_t text_len,
                          uint8_t *written, size_t written_len, uint8_t *answer, size_t answer_len);
@@ -171,11 +182,9 @@ uint32_t uisnabar_report(const uint8_t *grid, size_t grid_len, uint8_t *text, si
  *            the first of the three rows and then t, 4 bytes each, little-endian; finds stand in row order, and bytes
  *            after the last keep what they held; written on ACCEPTED alone
  *   found    UISNABAR_FOUND_BYTES, little-endian: the number of finds, 0 on a refusal
- *   answer   UISNABAR_ANSWER_BYTES, written on every verdict but ANSWER
  *
- * Returns the judge's verdict; LIST, tested last, with the number of finds as place, where finds_len is less than
- * UISNABAR_FIND_BYTES for each; or ANSWER where found_len or answer_len is another; nothing is written then. The cell's
- * number and its word stand in the row that a find names, as addr A and value A.
+ * Returns the judge's verdict; LIST, with the number of finds as place, where finds_len is less than they need; or
+ * ANSWER. The cell's number and its word stand in the row that a find names, as addr A and value A.
  */
 uint32_t uisnabar_ranges(const uint8_t *program, size_t program_len, const uint8_t *memory, size_t memory_len,
                          uint64_t pc, uint64_t fp, const uint8_t *exec, size_t exec_len,
@@ -194,11 +203,9 @@ uint32_t uisnabar_ranges(const uint8_t *program, size_t program_len, const uint8
  *            B, C; ADD, MUL, DEREF, JUMP, IS_PRECOMPILE, PRECOMPILE_INDEX; AUX_1, AUX_2
  *   program  exactly 48 bytes for each instruction of old, in a buffer of its own; written on ACCEPTED alone, else as
  *            it was; it may hold anything
- *   answer   UISNABAR_ANSWER_BYTES, written on every verdict but ANSWER
  *
  * Returns ACCEPTED; SIZE part 1 where either length is bad; WORD part 1, place counted in words of old, 14 to an
- * instruction; EDITION, place: the first instruction that is not translatable (docs/VERDICTS.md has the reasons); or
- * ANSWER where answer_len is another; nothing is written then. Tests run in number order, ANSWER first.
+ * instruction; EDITION, place: the first instruction that is not translatable (docs/VERDICTS.md says why); or ANSWER.
  */
 uint32_t uisnabar_translate(const uint8_t *old, size_t old_len, uint8_t *program, size_t program_len,
                             uint8_t *answer, size_t answer_len);
@@ -210,7 +217,6 @@ uint32_t uisnabar_translate(const uint8_t *old, size_t old_len, uint8_t *program
  *   text     any length, at most UISNABAR_LINE_BYTES for each instruction are ever needed; bytes after the listing keep
  *            what they held; written on ACCEPTED alone
  *   written  UISNABAR_WRITTEN_BYTES, little-endian: the listing's length, 0 on a refusal
- *   answer   UISNABAR_ANSWER_BYTES, written on every verdict but ANSWER
  *
  * An instruction is a line ended by LF, of fields with a single space between them, in this order: `op=`, which is add,
  * mul, deref, jump, xadd, xmul or xpeq; `a=`, `b=` and `c=`, each `imm:`, `cell:` or `fp:` and a decimal word; and for
@@ -221,8 +227,7 @@ uint32_t uisnabar_translate(const uint8_t *old, size_t old_len, uint8_t *program
  *     op=xmul a=fp:1 b=fp:2 c=cell:3 be=1 n=4
  *
  * Returns ACCEPTED; SIZE, WORD or INSTRUCTION, part 1, as the judge has them; SHORT, with the bytes needed as place,
- * where text_len is less; or ANSWER where written_len or answer_len is another; nothing is written then. Tests run in
- * number order, ANSWER first. A call with text_len 0 so gives the length of a listing before it is written.
+ * where text_len is less; or ANSWER. A call with text_len 0 so gives the length of a listing before it is written.
  */
 uint32_t uisnabar_list(const uint8_t *program, size_t program_len, uint8_t *text, size_t text_len,
                        uint8_t *written, size_t written_len, uint8_t *answer, size_t answer_len);
@@ -232,11 +237,9 @@ uint32_t uisnabar_list(const uint8_t *program, size_t program_len, uint8_t *text
  *   text     the whole listing, as above: 1 to 2^20 lines, each ended by LF, the last too
  *   program  any length; bytes after the program keep what they held; written on ACCEPTED alone
  *   written  UISNABAR_WRITTEN_BYTES, little-endian: the program's length, 0 on a refusal
- *   answer   UISNABAR_ANSWER_BYTES, written on every verdict but ANSWER
  *
  * Returns ACCEPTED; LISTING, place: the first byte that no valid listing that begins so could have there, or the text's
- * length where it ends too soon; SHORT, place: the bytes needed, 48 for each line, where program_len is less; or ANSWER
- * where written_len or answer_len is another; nothing is written then. Tests run in number order, ANSWER first.
+ * length where it ends too soon; SHORT, place: the bytes needed, 48 a line, where program_len is less; or ANSWER.
  */
 uint32_t uisnabar_read_listing(const uint8_t *text, size_t text_len, uint8_t *program, size_t program_len,
                                uint8_t *written, size_t written_len, uint8_t *answer, size_t answer_len);
@@ -248,9 +251,8 @@ uint32_t uisnabar_read_listing(const uint8_t *text, size_t text_len, uint8_t *pr
  *   state    a seed, or the state that any draws left
  *   draws    how far on. Both are 64 bits wide and taken whole, whatever they are: nothing is cut
  *   next     UISNABAR_NEXT_BYTES, little-endian: the state after so many draws, which is a seed as well
- *   answer   UISNABAR_ANSWER_BYTES, written on every verdict but ANSWER
  *
- * Returns ACCEPTED; or ANSWER where next_len or answer_len is another; nothing is written then.
+ * Returns ACCEPTED; or ANSWER.
  */
 uint32_t uisnabar_jump(uint64_t state, uint64_t draws, uint8_t *next, size_t next_len,
                        uint8_t *answer, size_t answer_len);
@@ -261,10 +263,8 @@ uint32_t uisnabar_jump(uint64_t state, uint64_t draws, uint8_t *next, size_t nex
  *   seed     the campaign's; 64 bits wide and taken whole
  *   host     0 to UISNABAR_HOSTS - 1; 64 bits wide and compared whole: any other number gives HOST, and none is cut
  *   next     UISNABAR_NEXT_BYTES, little-endian: the host's seed; on HOST the seed as it came
- *   answer   UISNABAR_ANSWER_BYTES, written on every verdict but ANSWER
  *
- * Returns ACCEPTED; HOST; or ANSWER, tested first, where next_len or answer_len is another; nothing is written then.
- * As `next` is written on HOST too, a driver looks at the verdict before it takes the seed.
+ * Returns ACCEPTED, HOST or ANSWER. On HOST too `next` is written: look at the verdict before taking the seed.
  *
  * A label draws at most 660 times (docs/VERDICTS.md, "Streams from one seed"). So a host that makes its labels' seeds
  * by jumps of 1024 draws from its own has 2^30 labels, no two of which share a draw.
@@ -276,7 +276,6 @@ uint32_t uisnabar_host(uint64_t seed, uint64_t host, uint8_t *next, size_t next_
  *
  *   text     the whole label: `v=1` or `v=2`, `seed=` with 16 lower-case hex digits, `m=` (10 to 29), `n=` (1 to 124),
  *            each line ended by LF
- *   answer   UISNABAR_ANSWER_BYTES, written on every verdict but ANSWER
  *   recipe   UISNABAR_RECIPE_BYTES, little-endian: bytes 0 to 7 the seed, 8 to 11 m, 12 to 15 n, 16 to 19 the version,
  *            1 or 2; written on ACCEPTED alone, else as it was
  *
@@ -286,8 +285,8 @@ uint32_t uisnabar_host(uint64_t seed, uint64_t host, uint8_t *next, size_t next_
  * has. So a driver that builds the program and memory itself looks at the version first, and refuses one that it does
  * not know.
  *
- * Returns ACCEPTED, LABEL, or ANSWER where answer_len or recipe_len is another; nothing is written then. LABEL's place
- * is measured against labels of both versions: a text that begins with `v=3` leaves them at place 2.
+ * Returns ACCEPTED, LABEL or ANSWER. LABEL's place is measured against labels of both versions: a text that begins with
+ * `v=3` leaves them at place 2.
  */
 uint32_t uisnabar_label(const uint8_t *text, size_t text_len, uint8_t *answer, size_t answer_len,
                         uint8_t *recipe, size_t recipe_len);

@@ -1,9 +1,9 @@
 """The command `uisnabar`, run: `python3 tests/cli.py target/cli/uisnabar`, or an emulator's words before it.
 
 Answers are computed by tests/oracle.py, sentences taken from docs/VERDICTS.md, sums from Python's own SHA-256. It works
-in a folder of its own. Lookups are in tests/cli_lookups.py, counts and reports in tests/cli_forms.py, range checks in
-tests/cli_ranges.py, translations in tests/cli_translate.py, listings in tests/cli_listings.py, streams in
-tests/cli_streams.py, labels in tests/cli_labels.py."""
+in a folder of its own. Lookups are in tests/cli_lookups.py, memories in two files in tests/cli_split.py, counts and
+reports in tests/cli_forms.py, range checks in tests/cli_ranges.py, translations in tests/cli_translate.py, listings in
+tests/cli_listings.py, streams in tests/cli_streams.py, labels in tests/cli_labels.py."""
 import os
 import pathlib
 import re
@@ -19,6 +19,7 @@ import cli_listings
 import cli_lookups
 import cli_ranges
 import cli_run
+import cli_split
 import cli_streams
 import cli_translate
 import oracle
@@ -182,8 +183,9 @@ def main():
         os.chdir(folder)
         os.mkdir("folder")
         pathlib.Path("folder/read").write_bytes(b"")
-        for group in (judged, tables, numbers, usage, files, streams, closed, sums, pages, *cli_lookups.GROUPS, *cli_labels.GROUPS,
-                      *cli_forms.GROUPS, *cli_ranges.GROUPS, *cli_translate.GROUPS, *cli_listings.GROUPS, *cli_streams.GROUPS):
+        for group in (judged, tables, numbers, usage, files, streams, closed, sums, pages, *cli_lookups.GROUPS, *cli_split.GROUPS,
+                      *cli_labels.GROUPS, *cli_forms.GROUPS, *cli_ranges.GROUPS, *cli_translate.GROUPS, *cli_listings.GROUPS,
+                      *cli_streams.GROUPS):
             group()
         os.chdir(ROOT)
     print("\n".join(cli_run.faults + [f"{cli_run.tried} tried, {len(cli_run.faults)} faults"]))

@@ -14,9 +14,10 @@ ENTRIES = set("""
 draw::Generator::new draw::Generator::draw draw::wrapping_product stream::jump stream::start
 label::read_label label::write_label maker::make tabler::table judge::judge
 grid::fresh grid::count grid_report::report edition::translate listing_writer::list listing_reader::read_listing
-range::find_ranges uisnabar::uisnabar_judge uisnabar::uisnabar_label uisnabar::uisnabar_count uisnabar::uisnabar_report
+range::find_ranges split::judge_split
+uisnabar::uisnabar_judge uisnabar::uisnabar_label uisnabar::uisnabar_count uisnabar::uisnabar_report
 uisnabar::uisnabar_translate uisnabar::uisnabar_list uisnabar::uisnabar_read_listing uisnabar::uisnabar_jump
-uisnabar::uisnabar_host uisnabar::uisnabar_ranges replay::replay table::table_label
+uisnabar::uisnabar_host uisnabar::uisnabar_ranges uisnabar::uisnabar_judge_split replay::replay table::table_label
 test_probe::probe_table test_probe::probe_make test_probe::probe_write
 """.split())
 FUNCTION = re.compile(r"^(\s*)pub (?:extern \"C\" )?fn (\w+)")

@@ -92,8 +92,8 @@ customers() {
     scratch
     local part
     for part in statuses inputs unwritable usages links shelves shelf_faults shelf_time records disagreement \
-        shelf_old shelf_forms forms_folders forms_statuses figures answer_named lookups ranges listings streams stack_figure installed tarball \
-        list_said rust_crate; do
+        shelf_old shelf_forms forms_folders forms_statuses figures answer_named lookups splits ranges listings streams \
+        stack_figure installed tarball list_said rust_crate; do
         "$part"
     done
     echo "what customers hold: $faults faults"

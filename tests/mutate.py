@@ -1,5 +1,6 @@
-"""Edits of a definition that its theorems must refuse: the edited crate is still proved, and `run`, for listings `listing_law`, for streams
-`stream_law`, for what is made `maker_run`, for range checks `range_law`, or a crate of theorems below it, is not.
+"""Edits of a definition that its theorems must refuse: the edited crate is still proved, and `run`, for listings
+`listing_law`, for streams `stream_law`, for what is made `maker_run`, for range checks `range_law`, for two buffers
+`split_law`, or a crate of theorems below it, is not.
 
   mutate.py            tries every edit
   mutate.py CRATE..    tries the edits of the crates named, as tabler_spec
@@ -20,6 +21,7 @@ LISTING = "crates/listing_spec/specs/Listing.antt"
 STREAM = "crates/stream_spec/specs/"
 MADE = "crates/maker_spec/specs/Made.antt"
 RANGE = "crates/range_spec/specs/"
+SPLIT = "crates/split_spec/specs/Split.antt"
 ROOM = r"&& leb \(filled m state \(suc r\) \+ 1\) extHeight$"
 
 # name, file, what stands there (a line's start, or a piece of it), what is put there
@@ -105,11 +107,22 @@ EDITS = [
     ("SHORT for LIST", RANGE + "Finder.antt", r"\bListShort\b", "Short"),
     ("LIST's place in bytes", RANGE + "Finder.antt", r"\(ListShort \(findsNumberIn q\)\)", "(ListShort (8 * findsNumberIn q))"),
     ("a refusal that gives a number", RANGE + "Finder.antt", r"\(findsNumberIn q\) 0$", "(findsNumberIn q) (findsNumberIn q)"),
+    ("m' from 1 on", SPLIT, r"isPower \(bytes / 4\) 0 28$", "isPower (bytes / 4) 1 28"),
+    ("m' at most 27", SPLIT, r"isPower \(bytes / 4\) 0 28$", "isPower (bytes / 4) 0 27"),
+    ("public words of any number", SPLIT, r"isPower \(bytes / 4\) 0 28$", "leb 1 (bytes / 4)"),
+    ("public words that are not whole", SPLIT, r"= eqb \(bytes % 4\) 0 && ", "= "),
+    ("m' = m", SPLIT, r" && leb 1 rest ", " "),
+    ("a rest of any length", SPLIT, r" && memoryFits \(public \+ rest\)$", ""),
+    ("a rest that is a memory by itself", SPLIT, r"memoryFits \(public \+ rest\)$", "memoryFits rest"),
+    ("the rest first", SPLIT, r"\(q \.public \+\+ q \.rest\)", "(q .rest ++ q .public)"),
+    ("pc and fp exchanged where the two are joined", SPLIT, r"\(q \.pc\) \(q \.fp\) \(q \.exec\)", "(q .fp) (q .pc) (q .exec)"),
+    ("a bad cut told as part 1", SPLIT, r"\(Size 2 0\)\)$", "(Size 1 0))"),
+    ("a bad cut told before part 1", SPLIT, r"(?s)cond \(programFits .*?\n    \(cond (.*) \(Size 2 0\)\)\n    \(Size 1 0\)$", r"cond \1 (Size 2 0)"),
     ("bytes after the last find moved up", RANGE + "Finder.antt", r"drop \(8 \* findsNumberIn q\) finds", "drop (findsNumberIn q) finds"),
 ]
 
 # the crate of theorems that must refuse an edit, by the crate that is edited; of the others it is run
-THEOREMS = {"listing_spec": "listing_law", "stream_spec": "stream_law", "maker_spec": "maker_run", "range_spec": "range_law"}
+THEOREMS = {"listing_spec": "listing_law", "stream_spec": "stream_law", "maker_spec": "maker_run", "range_spec": "range_law", "split_spec": "split_law"}
 
 # what an edit needs beside it
 EXTRA = {

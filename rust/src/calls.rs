@@ -15,6 +15,22 @@ extern "C" {
         answer: *mut u8,
         answer_len: usize,
     ) -> u32;
+    pub fn uisnabar_judge_split(
+        program: *const u8,
+        program_len: usize,
+        public_words: *const u8,
+        public_len: usize,
+        rest: *const u8,
+        rest_len: usize,
+        pc: u64,
+        fp: u64,
+        exec: *const u8,
+        exec_len: usize,
+        ext: *const u8,
+        ext_len: usize,
+        answer: *mut u8,
+        answer_len: usize,
+    ) -> u32;
     pub fn uisnabar_count(
         program: *const u8,
         program_len: usize,
@@ -113,14 +129,17 @@ extern "C" {
     ) -> u32;
 }
 
-/// A function of the library over a program, a memory, a start and two tables, and over buffers that it writes.
+/// A function of the library over a program, a memory in one buffer or in two, a start and two tables, and over buffers
+/// that it writes.
 macro_rules! on_tables {
-    ($call:ident($program:ident, $memory:ident, $pc:ident, $fp:ident, $exec:ident, $ext:ident), $($written:ident),+) => {
+    (
+        $call:ident($program:ident, $($memory:ident),+; $pc:ident, $fp:ident; $exec:ident, $ext:ident),
+        $($written:ident),+
+    ) => {
         $call(
             $program.as_ptr(),
             $program.len(),
-            $memory.as_ptr(),
-            $memory.len(),
+            $($memory.as_ptr(), $memory.len()),+,
             $pc,
             $fp,
             $exec.as_ptr(),

@@ -10,6 +10,7 @@
 //! let mut grid = uisnabar::FRESH;
 //! let refusal = uisnabar::judge(&[], &[], 0, 0, &[], &[]).unwrap_err();
 //! assert_eq!(refusal.to_string(), "SIZE part 1 place 0 rule 0 expected 0 found 0");
+//! assert_eq!(uisnabar::judge_split(&[], &[], &[], 0, 0, &[], &[]), Err(refusal));
 //! assert_eq!(uisnabar::count(&[], &[], 0, 0, &[], &[], &mut grid), Err(refusal));
 //! assert_eq!(uisnabar::report(&grid).unwrap(), "");
 //! assert_eq!(uisnabar::ranges(&[], &[], 0, 0, &[], &[]), Err(refusal));
@@ -26,6 +27,7 @@
 mod calls;
 mod listings;
 mod ranges;
+mod split;
 mod streams;
 
 use std::error::Error;
@@ -34,6 +36,7 @@ use std::fmt;
 use calls::{on_tables, uisnabar_count, uisnabar_judge, uisnabar_label, uisnabar_report, uisnabar_translate};
 pub use listings::{list, read_listing};
 pub use ranges::{ranges, Find};
+pub use split::judge_split;
 pub use streams::{host, jump};
 
 /// The version of the library that this crate is written for, `UISNABAR_VERSION`.
@@ -161,7 +164,7 @@ fn outcome(verdict: u32, answer: &[u8; ANSWER_BYTES]) -> Result<(), Refusal> {
 pub fn judge(program: &[u8], memory: &[u8], pc: u64, fp: u64, exec: &[u8], ext: &[u8]) -> Result<(), Refusal> {
     let mut answer = [0; ANSWER_BYTES];
     // SAFETY: each pointer comes with its slice's length, and `answer`, which alone is written, is this call's own.
-    let verdict = unsafe { on_tables!(uisnabar_judge(program, memory, pc, fp, exec, ext), answer) };
+    let verdict = unsafe { on_tables!(uisnabar_judge(program, memory; pc, fp; exec, ext), answer) };
     outcome(verdict, &answer)
 }
 
@@ -178,7 +181,7 @@ pub fn count(
 ) -> Result<(), Refusal> {
     let mut answer = [0; ANSWER_BYTES];
     // SAFETY: each pointer comes with its slice's length, `grid` is borrowed for this call alone and `answer` its own.
-    let verdict = unsafe { on_tables!(uisnabar_count(program, memory, pc, fp, exec, ext), grid, answer) };
+    let verdict = unsafe { on_tables!(uisnabar_count(program, memory; pc, fp; exec, ext), grid, answer) };
     outcome(verdict, &answer)
 }
 

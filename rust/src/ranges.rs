@@ -23,7 +23,7 @@ pub fn ranges(program: &[u8], memory: &[u8], pc: u64, fp: u64, exec: &[u8], ext:
     let rows = (exec.len() / ROW).min(MOST_ROWS);
     let (mut answer, mut found, mut finds) = ([0; ANSWER_BYTES], [0; FOUND_BYTES], vec![0; rows * FIND_BYTES]);
     // SAFETY: each pointer comes with its slice's length, and the three buffers that are written are this call's own.
-    let verdict = unsafe { on_tables!(uisnabar_ranges(program, memory, pc, fp, exec, ext), finds, found, answer) };
+    let verdict = unsafe { on_tables!(uisnabar_ranges(program, memory; pc, fp; exec, ext), finds, found, answer) };
     outcome(verdict, &answer)?;
     let of = |find: &[u8]| Find { row: number(&find[..4]), bound: number(&find[4..]) };
     Ok(finds.chunks_exact(FIND_BYTES).take(number(&found[..4]) as usize).map(of).collect())

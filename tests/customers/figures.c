@@ -22,6 +22,11 @@ static uint32_t judge_answer(size_t len)
     return uisnabar_judge(NULL, 0, NULL, 0, 0, 0, NULL, 0, NULL, 0, lent.answer, len);
 }
 
+static uint32_t split_answer(size_t len)
+{
+    return uisnabar_judge_split(NULL, 0, NULL, 0, NULL, 0, 0, 0, NULL, 0, NULL, 0, lent.answer, len);
+}
+
 static uint32_t count_grid(size_t len)
 {
     return uisnabar_count(NULL, 0, NULL, 0, 0, 0, NULL, 0, NULL, 0, lent.grid, len, lent.answer, UISNABAR_ANSWER_BYTES);
@@ -171,6 +176,7 @@ static void labels(void)
 int main(void)
 {
     lengths("judge's answer", judge_answer);
+    lengths("judge_split's answer", split_answer);
     lengths("count's grid", count_grid);
     lengths("count's answer", count_answer);
     lengths("ranges' found", ranges_found);

@@ -11,6 +11,7 @@ rust_figure() { sed -n "s/^\(pub \)\?const $2: \(usize\|u64\) = \([0-9]*\);$/\3/
 lengths() {
     local name kept
     echo "length judge's answer $(figure answer) SIZE"
+    echo "length judge_split's answer $(figure answer) SIZE"
     echo "length count's grid $(figure grid) SIZE"
     echo "length count's answer $(figure answer) SIZE"
     for name in found answer; do
@@ -134,6 +135,22 @@ lookups() {
     gives 0 rustc -O -L target/staticlib -l static=uisnabar -o "$work/lookups-rust" examples/driver.rs
     gives 1 of "$work/spoiled-tables" "$work/lookups-rust"
     said_file <(echo "$told")
+}
+
+# what a driver reads of a memory in two buffers, in C and, where g++ compiles for x86-64, in C++
+splits() {
+    compile "$work/split-program" -Iinclude tests/customers/split.c target/staticlib/libuisnabar.a ||
+        fault "tests/customers/split.c cannot be compiled"
+    gives 0 emulated "$work/split-program"
+    said ' tried, 0 faults'
+    if [ "$(uname -m)" != x86_64 ] || ! command -v g++ >/dev/null; then
+        echo "skipped: a driver in C++, for want of g++ for x86-64"
+        return 0
+    fi
+    gives 0 g++ -std=c++17 -Wall -Wextra -Wpedantic -Werror -O3 -Iinclude -o "$work/split-cxx" tests/customers/split.c \
+        target/staticlib/libuisnabar.a
+    gives 0 "$work/split-cxx"
+    said ' tried, 0 faults'
 }
 
 # what a driver reads of range checks

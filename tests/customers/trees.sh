@@ -22,6 +22,31 @@ finds() {
     complained 'value B must be the cell at address B; cell 0 holds 335903614, value B is 335903489'
 }
 
+# played FOLDER: a page's script there, with the command that it names
+played() { (cd "$1" && . ./command && . ./script); }
+
+# cuts PREFIX: the command there does docs/VERDICTS.md's example of a memory in two files, with the tables that `finds`
+# left; 3 words and 253 are refused
+cuts() {
+    local parts="$work/cut"
+    mkdir -p "$parts"
+    sed -n '/^## Public words in their own buffer/,/^## /s/^    //p' "$1/share/doc/uisnabar/VERDICTS.md" >"$parts/script"
+    printf 'uisnabar() { emulated "%s" "$@"; }\n' "$1/bin/uisnabar" >"$parts/command"
+    cp "$work/tables" "$parts/tables"
+    gives 1 played "$parts"
+    said_file <(printf '%s\n' {verdict,part,place,rule,expected,found}=0 \
+        verdict=5 part=3 place=14 rule=2 expected=73574913 found=73575058)
+    complained 'ACCEPTED: the tables satisfy the constraints of leanVM draft 0.6.0'
+    complained 'cell 16 holds 73574913, value A is 73575058; cell 16 is word 0 of the rest'
+    head -c 12 "$parts/public" >"$parts/three"
+    head -c 1012 "$parts/rest" >"$parts/others"
+    gives 1 emulated "$1/bin/uisnabar" judge --public "$parts/three" "$parts"/{program,others,exec,ext}
+    said_file <(printf '%s\n' verdict=1 part=2 place=0 rule=0 expected=0 found=0)
+    complained "SIZE: the public words have 12 bytes and the rest 1012: 12 bytes are not 2^m' words with m' at most 28;"
+    gives 2 emulated "$1/bin/uisnabar" judge --public "$parts/public" "$parts/tables"
+    complained '--public goes with PROGRAM REST EXEC EXT'
+}
+
 # checks PREFIX: the command there finds the range check of docs/VERDICTS.md's example, and nothing in refused tables
 checks() {
     local parts="$work/checked"
@@ -105,8 +130,8 @@ campaigns() {
 }
 
 # holds_tree PREFIX: a driver compiled by pkg-config judges; the programs answer the shelf, and the command counts its
-# forms, says what was found, finds range checks, translates, lists, reads labels and gives hosts their seeds; all as in
-# the repository
+# forms, says what was found, takes a memory in two files, finds range checks, translates, lists, reads labels and gives
+# hosts their seeds; all as in the repository
 holds_tree() {
     local doc=$1/share/doc/uisnabar shelf=$1/share/uisnabar/shelf flags label
     flags=$(PKG_CONFIG_PATH=$1/lib/pkgconfig pkg-config --cflags --libs uisnabar) || fault "pkg-config knows no uisnabar"
@@ -125,6 +150,7 @@ holds_tree() {
     gives 0 emulated "$1/bin/uisnabar" report "$work/tree-grid"
     said_file "$work/report"
     finds "$1"
+    cuts "$1"
     checks "$1"
     translates "$1"
     lists "$1"

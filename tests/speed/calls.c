@@ -45,6 +45,14 @@ uint32_t library_judge(job *j)
                           answer, sizeof answer);
 }
 
+/* both buffers where the whole memory stands, so that the same bytes are read */
+uint32_t library_split(job *j)
+{
+    speed_input *in = j->in;
+    return uisnabar_judge_split(in->program, in->program_len, in->memory, j->public, in->memory + j->public, in->memory_len - j->public,
+                                0, 0, in->exec, in->exec_len, j->ext, in->ext_len, answer, sizeof answer);
+}
+
 uint32_t second_judges(job *j)
 {
     speed_input *in = j->in;

@@ -16,6 +16,7 @@ typedef struct {
     size_t calls;    /* so many calls are timed as one */
     uint32_t wanted; /* the verdict that each must give */
     unsigned bits;   /* of the draws, or of the host */
+    size_t public;   /* so many of the memory's bytes are public */
 } job;
 
 typedef uint32_t (*call)(job *j);
@@ -27,6 +28,7 @@ void expect(uint32_t verdict, uint32_t wanted, const char *what);
 size_t write_label(job *j, uint32_t n);
 
 uint32_t library_judge(job *j);
+uint32_t library_split(job *j);
 uint32_t second_judges(job *j);
 uint32_t second_sorts(job *j);
 uint32_t library_count(job *j);

@@ -40,6 +40,24 @@ static void bytes_each_second(const compared *c)
            bytes / taken / 1e6);
 }
 
+/* A memory in two buffers beside the second's judge of the two joined, then beside the library's own. */
+static void splits(const char *beside_second, const char *beside_judge, compared *c)
+{
+    compare(beside_second, c, SIZES, ROUNDS, library_split, second_judges);
+    compare(beside_judge, c, SIZES, ROUNDS, library_split, library_judge);
+}
+
+/* Half of the memory is public, or one word. */
+static void halves_and_words(compared *c)
+{
+    for (int s = 0; s < SIZES; s++)
+        c[s].j.public = c[s].j.in->memory_len / 2;
+    splits("split, half public; joined", "split, half; library's judge", c);
+    for (int s = 0; s < SIZES; s++)
+        c[s].j.public = 4;
+    splits("split, one word public; joined", "split, one word; library's judge", c);
+}
+
 /* The count beside the second's, then beside the library's own judge of the same tables. */
 static void counts(const char *beside_second, const char *beside_judge, compared *c, int sizes)
 {
@@ -74,6 +92,7 @@ static void tables(void)
     compare("judge", c, SIZES, ROUNDS, library_judge, second_judges);
     for (int s = 0; s < SIZES; s++)
         bytes_each_second(&c[s]);
+    halves_and_words(c);
     counts("count", "count; beside library's judge", c, SIZES);
     ranges("ranges, nothing found", "ranges, nothing; library's judge", c);
     for (int s = 0; s < SIZES; s++) {

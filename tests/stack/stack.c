@@ -1,19 +1,17 @@
 /* The stack that each exported function uses: the most over calls that take each of its ways, on a thread whose stack was painted before.
  * Ends with 1 where one that customers call uses more than the header says. */
-#define _DEFAULT_SOURCE
-#include <pthread.h>
 #include <stdio.h>
 #include <stdlib.h>
 #include <string.h>
-#include <sys/mman.h>
 
 #include "../differ/library.h"
 #include "../speed/inputs.h"
+#include "paint.h"
 
-enum { ROOM = 256 << 10, PAINT = 0xa5, GROUP = 4 * 120, LISTED = 1 << 10 };
+enum { GROUP = 4 * 120, LISTED = 1 << 10 };
 
-static uint8_t *stack;
 static speed_input in, old;
+static size_t public_len; /* of the memory's bytes, where it comes in two buffers */
 static uint8_t answer[UISNABAR_ANSWER_BYTES], recipe[UISNABAR_RECIPE_BYTES], text[64], grid[UISNABAR_GRID_BYTES];
 static uint8_t report_text[UISNABAR_REPORT_BYTES], written[UISNABAR_WRITTEN_BYTES], next[UISNABAR_NEXT_BYTES];
 static uint8_t finds[UISNABAR_FIND_BYTES], found[UISNABAR_FOUND_BYTES];
@@ -30,6 +28,13 @@ static void *nothing(void *ext)
 static void *judge(void *ext)
 {
     uisnabar_judge(in.program, in.program_len, in.memory, in.memory_len, 0, 0, in.exec, in.exec_len, ext, in.ext_len, answer, sizeof answer);
+    return NULL;
+}
+
+static void *judge_split(void *ext)
+{
+    uisnabar_judge_split(in.program, in.program_len, in.memory, public_len, in.memory + public_len, in.memory_len - public_len, 0, 0,
+                         in.exec, in.exec_len, ext, in.ext_len, answer, sizeof answer);
     return NULL;
 }
 
@@ -115,22 +120,6 @@ static void *maker(void *version)
     return NULL;
 }
 
-/* How many bytes from the stack's top on a thread with this work touched. */
-static size_t touched(void *(*work)(void *), void *with)
-{
-    pthread_attr_t attributes;
-    pthread_t thread;
-    memset(stack, PAINT, ROOM);
-    if (pthread_attr_init(&attributes) != 0 || pthread_attr_setstack(&attributes, stack, ROOM) != 0
-        || pthread_create(&thread, &attributes, work, with) != 0 || pthread_join(thread, NULL) != 0)
-        exit(2);
-    pthread_attr_destroy(&attributes);
-    size_t at = 0;
-    while (at < ROOM && stack[at] == PAINT)
-        at++;
-    return ROOM - at;
-}
-
 static size_t most(size_t a, size_t b)
 {
     return a > b ? a : b;
@@ -164,6 +153,15 @@ static size_t over_tables(void *(*work)(void *))
     used = most(used, touched(work, in.shuffled));
     memcpy(in.shuffled + (size_t)GROUP * 900, in.shuffled + (size_t)GROUP * 1200, GROUP);
     return most(used, touched(work, in.shuffled));
+}
+
+/* With one public word, so that padding looks five cells up in both buffers, and with as many as there may be. */
+static size_t of_split(void)
+{
+    public_len = 4;
+    size_t used = over_tables(judge_split);
+    public_len = in.memory_len / 2;
+    return most(used, over_tables(judge_split));
 }
 
 /* With recipes of either version. */
@@ -273,15 +271,14 @@ static void exported(const char *name, size_t used, size_t start, size_t most_us
 
 int main(void)
 {
-    stack = mmap(NULL, ROOM, PROT_READ | PROT_WRITE, MAP_PRIVATE | MAP_ANONYMOUS, -1, 0);
-    if (stack == MAP_FAILED)
-        return 2;
+    lay_stack();
     in = speed_build(15, 13, 17, 1);
     old = speed_old(12);
     memcpy(listed, in.program, sizeof listed);
     size_t start = touched(nothing, NULL);
     line("tabler", touched(tabler, NULL), start);
     exported("uisnabar_judge", over_tables(judge), start, UISNABAR_STACK_BYTES);
+    exported("uisnabar_judge_split", of_split(), start, UISNABAR_STACK_BYTES);
     exported("uisnabar_count", of_count(), start, UISNABAR_COUNT_STACK_BYTES);
     exported("uisnabar_ranges", of_ranges(), start, UISNABAR_STACK_BYTES);
     exported("uisnabar_report", of_report(), start, UISNABAR_STACK_BYTES);

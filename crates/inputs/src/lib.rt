@@ -3,6 +3,8 @@ mod size;
 mod walk;
 
 pub use size::bad_part;
+pub use size::is_power;
+pub use size::memory_fits;
 pub use size::program_fits;
 pub use walk::eight_words;
 pub use walk::first_word;

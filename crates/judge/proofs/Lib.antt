@@ -1,3 +1,4 @@
+pub mod Joined
 pub mod Balances
 pub mod Passed
 pub mod Reached

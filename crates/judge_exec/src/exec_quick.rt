@@ -7,10 +7,12 @@ use word::add;
 use word::mul;
 ghost use mathlib.Core.Path.{_≡_};
 ghost use mathlib.Core.Bool.{true};
+ghost use mathlib.Core.List.{_++_};
 ghost use Prim.Native.Nat.{ℕ, _<_};
 ghost use Rattle.word.specs.Word.{p, _*ₚ_};
 ghost use Rattle.rules.specs.Given.{zero?};
 ghost use Rattle.bus_tuples.specs.Selected.{selectedOf};
+ghost use Rattle.judge_lookups.specs.Memory.{SeamBetween};
 ghost use Rattle.judge_exec.specs.Parts.{lookupsThen, addressed, operationsThen, jumpsThen, execFails};
 
 // What is no word, and so no selected value.
@@ -38,21 +40,22 @@ fn picked(flag: u32, fp_flag: u32, operand: u32, addr: u32, value: u32, fp: u32)
 }
 
 // Rules 2 to 4.
-fn lookups_hold(memory: &[u8], x: Exec) -> bool
-    ensures { λ r. ⌜ (r ≡ true → (rest : ℕ) → lookupsThen (now (memory .entry)) x rest ≡ rest) ⌝ }
+fn lookups_hold<'a>(public: &'a [u8], rest: &'a [u8], x: Exec) -> bool
+    requires { ⌜ SeamBetween (now public) ⌝ }
+    ensures { λ r. ⌜ (r ≡ true → (after : ℕ) → lookupsThen (now (public .entry) ++ now (rest .entry)) x after ≡ after) ⌝ }
 {
-    if !looks_up(memory, x.addrA as usize, x.valueA) {
+    if !looks_up(public, rest, x.addrA as usize, x.valueA) {
         return false;
     }
-    if !looks_up(memory, x.addrB as usize, x.valueB) {
+    if !looks_up(public, rest, x.addrB as usize, x.valueB) {
         return false;
     }
-    looks_up(memory, x.addrC as usize, x.valueC)
+    looks_up(public, rest, x.addrC as usize, x.valueC)
 }
 
 // Rules 8 to 11, by AUX: 0 is MUL or none, 1 ADD and 2 DEREF.
 fn operated(i: Instruction, x: Exec, a: u32, b: u32, c: u32) -> bool
-    ensures { λ r. ⌜ (r ≡ true → (rest : ℕ) → operationsThen i x a b c rest ≡ rest) ⌝ }
+    ensures { λ r. ⌜ (r ≡ true → (after : ℕ) → operationsThen i x a b c after ≡ after) ⌝ }
 {
     if i.aux == 0 {
         return (i.mul == 0) | (b == mul(a, c));
@@ -84,10 +87,17 @@ fn moved(j: u32, x: Exec, y: Exec, a: u32, b: u32, c: u32) -> bool
 }
 
 // Whether these comparisons show that all rules but 1 hold. Lookups come first, while the row's columns are at hand.
-pub(crate) fn exec_holds(memory: &[u8], x: Exec, y: Exec, i: Instruction) -> bool
-    ensures { λ r. ⌜ (r ≡ true → execFails (now (memory .entry)) x y i ≡ 0) ⌝ }
+pub(crate) fn exec_holds<'a>(
+    public: &'a [u8],
+    rest: &'a [u8],
+    x: Exec,
+    y: Exec,
+    i: Instruction,
+) -> bool
+    requires { ⌜ SeamBetween (now public) ⌝ }
+    ensures { λ r. ⌜ (r ≡ true → execFails (now (public .entry) ++ now (rest .entry)) x y i ≡ 0) ⌝ }
 {
-    if !lookups_hold(memory, x) {
+    if !lookups_hold(public, rest, x) {
         return false;
     }
     let a = picked(i.fa, i.fpab, i.a, x.addrA, x.valueA, x.fp);

@@ -9,9 +9,11 @@ use word::add;
 use word::mul;
 use word::sub;
 ghost use mathlib.Core.Path.{_≡_};
+ghost use mathlib.Core.List.{_++_};
 ghost use Rattle.word.specs.Word.{_-ₚ_};
 ghost use Rattle.rules.specs.Given.{zero?};
 ghost use Rattle.rules.specs.Execution.{ADD, DEREF};
+ghost use Rattle.judge_lookups.specs.Memory.{SeamBetween};
 ghost use Rattle.judge_exec.specs.Parts.{lookupsThen, addressed, addressesThen, operationsThen, jumpsThen, execFails};
 
 // 1 where an operand is a cell read, 0 where it is an immediate or fp + operand.
@@ -26,13 +28,14 @@ fn reads_cell(flag: u32, fp_flag: u32) -> u32
     sub(sub(1, flag), fp_flag)
 }
 
-fn lookups(memory: &[u8], x: Exec, rest: u32) -> u32
-    ensures { λ r. ⌜ r ≡ lookupsThen (now (memory .entry)) x rest ⌝ }
+fn lookups<'a>(public: &'a [u8], rest: &'a [u8], x: Exec, after: u32) -> u32
+    requires { ⌜ SeamBetween (now public) ⌝ }
+    ensures { λ r. ⌜ r ≡ lookupsThen (now (public .entry) ++ now (rest .entry)) x after ⌝ }
 {
-    let a = looks_up(memory, x.addrA as usize, x.valueA);
-    let b = looks_up(memory, x.addrB as usize, x.valueB);
-    let c = looks_up(memory, x.addrC as usize, x.valueC);
-    first_of(2, a, first_of(3, b, first_of(4, c, rest)))
+    let a = looks_up(public, rest, x.addrA as usize, x.valueA);
+    let b = looks_up(public, rest, x.addrB as usize, x.valueB);
+    let c = looks_up(public, rest, x.addrC as usize, x.valueC);
+    first_of(2, a, first_of(3, b, first_of(4, c, after)))
 }
 
 fn address_holds(flag: u32, fp_flag: u32, addr: u32, fp: u32, operand: u32) -> bool
@@ -41,13 +44,13 @@ fn address_holds(flag: u32, fp_flag: u32, addr: u32, fp: u32, operand: u32) -> b
     gated(reads_cell(flag, fp_flag), addr, add(fp, operand))
 }
 
-fn addresses(i: Instruction, x: Exec, rest: u32) -> u32
-    ensures { λ r. ⌜ r ≡ addressesThen i x rest ⌝ }
+fn addresses(i: Instruction, x: Exec, after: u32) -> u32
+    ensures { λ r. ⌜ r ≡ addressesThen i x after ⌝ }
 {
     let a = address_holds(i.fa, i.fpab, x.addrA, x.fp, i.a);
     let b = address_holds(i.fb, i.fpab, x.addrB, x.fp, i.b);
     let c = address_holds(i.fc, i.fpc, x.addrC, x.fp, i.c);
-    first_of(5, a, first_of(6, b, first_of(7, c, rest)))
+    first_of(5, a, first_of(6, b, first_of(7, c, after)))
 }
 
 // ADD = AUX·(2 - AUX)
@@ -79,8 +82,8 @@ fn deref_flag(i: Instruction) -> u32
     mul(mul(i.aux, sub(i.aux, 1)), 1065353217)
 }
 
-fn operations(i: Instruction, x: Exec, a: u32, b: u32, c: u32, rest: u32) -> u32
-    ensures { λ r. ⌜ r ≡ operationsThen i x a b c rest ⌝ }
+fn operations(i: Instruction, x: Exec, a: u32, b: u32, c: u32, after: u32) -> u32
+    ensures { λ r. ⌜ r ≡ operationsThen i x a b c after ⌝ }
 {
     let deref = deref_flag(i);
     let sums = gated(add_flag(i), b, add(a, c));
@@ -90,7 +93,11 @@ fn operations(i: Instruction, x: Exec, a: u32, b: u32, c: u32, rest: u32) -> u32
     first_of(
         8,
         sums,
-        first_of(9, products, first_of(10, target, first_of(11, equal, rest))),
+        first_of(
+            9,
+            products,
+            first_of(10, target, first_of(11, equal, after)),
+        ),
     )
 }
 
@@ -108,12 +115,24 @@ fn jumps(j: u32, x: Exec, y: Exec, a: u32, b: u32, c: u32) -> u32
 }
 
 // The first rule after rule 1 that fails, and 0 where all hold.
-pub(crate) fn exec_computed(memory: &[u8], x: Exec, y: Exec, i: Instruction) -> u32
-    ensures { λ r. ⌜ r ≡ execFails (now (memory .entry)) x y i ⌝ }
+pub(crate) fn exec_computed<'a>(
+    public: &'a [u8],
+    rest: &'a [u8],
+    x: Exec,
+    y: Exec,
+    i: Instruction,
+) -> u32
+    requires { ⌜ SeamBetween (now public) ⌝ }
+    ensures { λ r. ⌜ r ≡ execFails (now (public .entry) ++ now (rest .entry)) x y i ⌝ }
 {
     let a = selected(i.fa, i.fpab, i.a, x.valueA, x.fp);
     let b = selected(i.fb, i.fpab, i.b, x.valueB, x.fp);
     let c = selected(i.fc, i.fpc, i.c, x.valueC, x.fp);
     let last = jumps(mul(i.jump, a), x, y, a, b, c);
-    lookups(memory, x, addresses(i, x, operations(i, x, a, b, c, last)))
+    lookups(
+        public,
+        rest,
+        x,
+        addresses(i, x, operations(i, x, a, b, c, last)),
+    )
 }

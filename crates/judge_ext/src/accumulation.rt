@@ -122,8 +122,8 @@ fn tail_of(y: Ext) -> [u32; 5]
 }
 
 // Rules 6 to 8.
-fn operates(x: Ext, y: Ext, rest: u32) -> u32
-    ensures { λ r. ⌜ r ≡ operatesThen x y (selected x) (compTail y) rest ⌝ }
+fn operates(x: Ext, y: Ext, after: u32) -> u32
+    ensures { λ r. ⌜ r ≡ operatesThen x y (selected x) (compTail y) after ⌝ }
 {
     let b = x.vB;
     let comp = x.comp;
@@ -132,20 +132,20 @@ fn operates(x: Ext, y: Ext, rest: u32) -> u32
     let sums = sums_hold(x.add, comp, v, b, tail);
     let products = products_hold(x.mul, comp, v, b, tail);
     let peqs = peqs_hold(x.peq, comp, v, b, tail, y.start);
-    first_of(6, sums, first_of(7, products, first_of(8, peqs, rest)))
+    first_of(6, sums, first_of(7, products, first_of(8, peqs, after)))
 }
 
 // Rules 6 to 9 of row r, which is read here, and by its caller: a row that is handed on is copied, and rows stand in
 // cache. One with no operation, as padding is, has only rule 9.
-pub(crate) fn accumulates(ext: &[u8], r: usize, rest: u32) -> u32
+pub(crate) fn accumulates(ext: &[u8], r: usize, after: u32) -> u32
     requires { ⌜ r < length (now ext) / 120 ⌝ }
     ensures { λ f. ⌜ f ≡ accumulatesThen (rowOf (now (ext .entry)) r) (pairedRow (now (ext .entry)) r)
-        (selected (rowOf (now (ext .entry)) r)) (compTail (pairedRow (now (ext .entry)) r)) rest ⌝ }
+        (selected (rowOf (now (ext .entry)) r)) (compTail (pairedRow (now (ext .entry)) r)) after ⌝ }
 {
     let x = ext_inside(ext, 120 * r);
     let comp = x.comp;
     let res = x.res;
-    let last = first_of(9, gated_elements(x.start, comp, res), rest);
+    let last = first_of(9, gated_elements(x.start, comp, res), after);
     if (x.add == 0) & (x.mul == 0) & (x.peq == 0) {
         return last;
     }

@@ -5,16 +5,20 @@ use mathlib.Core.Path.{_≡_, refl, sym, ap, _∙_}
 use mathlib.Core.Bool.{Bool, true, false, cond, not}
 use mathlib.Core.List.{List}
 use Prim.Native.Nat.{ℕ, _+_, _/_, _≤_, _<_}
+use native.Mathlib.Nat.{add-zero}
 use native.Mathlib.Omega.{arith}
 use lib.Dec.{ltb, eqb}
 use lib.ListN.{length, getD}
+use Rattle.word.specs.Bytes.{wordAt}
+use Rattle.word.proofs.Tests.{by-order}
 use Rattle.rows.specs.Rows.{fiveWords}
 use Rattle.rules.specs.declared.Found.{Found}
 use Rattle.rules.specs.Sizes.{wordOf}
 use Rattle.rules.specs.Lookups.{finding, differing, foundBy}
-use Rattle.judge_lookups.specs.Memory.{cellOf, cellIs}
+use Rattle.judge_lookups.specs.Memory.{cellBytes, cellOf, cellIs}
 use Rattle.judge_lookups.specs.declared.Cell.{Cell}
 use Rattle.judge_lookups.specs.declared.Cell.the-variants.{Word, Outside}
+use Rattle.judge_lookups.proofs.Seam.{bytes-gone, some-there, lent-there, word-lent}
 
 abbrev there : Cell → Bool
 there (Word w) = true
@@ -31,6 +35,26 @@ module _ (memory : List ℕ) (k : ℕ) where
 
   pub cell-gone : {b : Bool} → b ≡ ltb k (length memory / 4) → not b ≡ true → length memory / 4 ≤ k
   cell-gone {b} e t = ltb-false k (length memory / 4) (sym e ∙ not-true b t)
+
+  -- a cell's bytes tell whether it is there, and its word
+  module _ {s : List ℕ} (e : s ≡ cellBytes memory k 1) where
+    pub cell-long : k < length memory / 4 → length s ≡ 4
+    cell-long h = lent-there memory k 1 e (omega arith)
+
+    pub cell-full : 4 ≤ length s → k < length memory / 4
+    cell-full h = omega (arith, some-there memory k 1 e (omega arith))
+
+    pub cell-short : length s < 4 → length memory / 4 ≤ k
+    cell-short h = by-order k (length memory / 4) (λ there. absurd (omega (arith, cell-long there))) (λ gone. gone)
+
+    pub cell-word : k < length memory / 4 → wordAt s 0 ≡ wordOf memory k
+    cell-word h = rw (add-zero k) at (word-lent memory k 1 e 0 0 refl (omega arith) (omega arith))
+
+    pub some-bytes : ltb 0 (length s) ≡ ltb k (length memory / 4)
+    some-bytes =
+        by-order k (length memory / 4)
+        (λ there. rw (lt-ltb k (length memory / 4) there) (lt-ltb 0 (length s) (omega (arith, cell-long there))))
+        (λ gone. rw (le-ltb k (length memory / 4) gone, e, bytes-gone memory k 1 (omega arith)))
 
   there-is : there (cellOf memory k) ≡ ltb k (length memory / 4)
   there-is = by (ltb k (length memory / 4))

@@ -1,2 +1,3 @@
 pub mod Quick
+pub mod Seam
 pub mod Cells

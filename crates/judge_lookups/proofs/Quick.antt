@@ -1,20 +1,23 @@
 -- What plain comparisons say of a rule: a gate that is 0 or two words that are equal leave 0, and a rule that holds is
 -- passed.
 -- Assumes nothing.
-use borrow.Author.Tests.{eq-eqb, eqb-true, le-ltb, lt-ltb}
+use borrow.Author.Tests.{eq-eqb, eqb-true, leb-true, lt-ltb}
 use mathlib.Core.Path.{_≡_, refl, _∙_}
 use mathlib.Core.Bool.{Bool, true, false, _&&_, false≢true, cond}
-use mathlib.Core.List.{List}
-use Prim.Native.Nat.{ℕ, _+_, _*_, _/_, _<_, _≤_}
+use mathlib.Core.List.{List, [], _∷_, _++_}
+use Prim.Native.Nat.{ℕ, _+_, _*_, _/_, _%_, _<_, _≤_}
+use native.Mathlib.Nat.{add-zero}
 use native.Mathlib.Omega.{arith}
-use lib.Dec.{eqb}
+use lib.Dec.{leb, eqb}
 use lib.ListN.{length}
 use Rattle.word.specs.Word.{_-ₚ_, _*ₚ_}
 use Rattle.word.specs.Bytes.{wordAt}
 use Rattle.word.specs.Element.{_⟨_⟩}
+use Rattle.word.proofs.Tests.{each}
 use Rattle.word.proofs.WordLaws.{product-comm, product-zero, difference-self}
 use Rattle.rules.specs.Given.{zero?}
-use Rattle.judge_lookups.specs.Memory.{cellsAre}
+use Rattle.judge_lookups.specs.Memory.{cellBytes, cellIs, cellsAre, heldBytes, heldAre}
+use Rattle.judge_lookups.proofs.Seam.{some-there, word-lent, held-joined}
 
 pub shut : (x : ℕ) → 0 *ₚ x ≡ 0
 shut x = product-comm 0 x ∙ product-zero x
@@ -37,27 +40,30 @@ same-rule gate x y e = eq-eqb (gate *ₚ (x -ₚ y)) 0 (rw (e, difference-self, 
 pub same-test : (gate x y : ℕ) → eqb x y ≡ true → zero? (gate *ₚ (x -ₚ y)) ≡ true
 same-test gate x y t = same-rule gate x y (eqb-true x y t)
 
-and-false : (t : Bool) → (t && false) ≡ false
-and-false true = refl
-and-false false = refl
+-- five cells that one buffer holds are the memory's
+module _ (public rest : List ℕ) (addr : ℕ) (a : List ℕ) (seam : length public % 4 ≡ 0) where
+  abbrev held : List ℕ
+  held = heldBytes public rest addr 5
 
--- five cells of which the last is past the end
-pub no-five-cells : (memory : List ℕ) (addr : ℕ) (a : List ℕ) → length memory / 4 ≤ addr + 4 → false ≡ cellsAre memory addr a
-no-five-cells memory addr a h = simp (le-ltb (addr + 4) (length memory / 4) h, and-false)
+  module _ (some : 0 < length held) where
+    lent : held ≡ cellBytes (public ++ rest) addr 5
+    lent = held-joined public rest addr 5 seam some
 
--- five cells that are all there
-pub five-cells : (memory : List ℕ) (addr : ℕ) (a : List ℕ) → addr + 4 < length memory / 4
-    → (eqb (a ⟨ 0 ⟩) (wordAt memory (4 * addr))
-    && eqb (a ⟨ 1 ⟩) (wordAt memory (4 * (addr + 1)))
-    && eqb (a ⟨ 2 ⟩) (wordAt memory (4 * (addr + 2)))
-    && eqb (a ⟨ 3 ⟩) (wordAt memory (4 * (addr + 3)))
-    && eqb (a ⟨ 4 ⟩) (wordAt memory (4 * (addr + 4))))
-    ≡ cellsAre memory addr a
-five-cells memory addr a h =
-    rw (
-      lt-ltb addr (length memory / 4) (omega arith),
-      lt-ltb (addr + 1) (length memory / 4) (omega arith),
-      lt-ltb (addr + 2) (length memory / 4) (omega arith),
-      lt-ltb (addr + 3) (length memory / 4) (omega arith),
-      lt-ltb (addr + 4) (length memory / 4) h,
-    )
+    same : (at j : ℕ) → at ≡ 4 * j → j < 5 → eqb (a ⟨ j ⟩) (wordAt held at) ≡ true → cellIs (public ++ rest) (addr + j) (a ⟨ j ⟩) ≡ true
+    same at j k b e =
+        let there = some-there (public ++ rest) addr 5 lent some in
+        rw (lt-ltb (addr + j) (length (public ++ rest) / 4) (omega (arith, there)), ← word-lent (public ++ rest) addr 5 lent at j k there b) e
+
+  pub held-cells : heldAre public rest addr a ≡ true → cellsAre (public ++ rest) addr a ≡ true
+  held-cells e =
+      let t = each (leb 20 (length held))
+      (eqb (a ⟨ 0 ⟩) (wordAt held 0) ∷ eqb (a ⟨ 1 ⟩) (wordAt held 4) ∷ eqb (a ⟨ 2 ⟩) (wordAt held 8) ∷ eqb (a ⟨ 3 ⟩) (wordAt held 12) ∷ eqb (a ⟨ 4 ⟩) (wordAt held 16) ∷ [])
+      e in
+      let some : 0 < length held = omega (arith, leb-true 20 (length held) (t .0)) in
+      rw (
+        rw (add-zero addr) at (same some 0 0 refl (omega arith) (t .1 .0)),
+        same some 4 1 refl (omega arith) (t .1 .1 .0),
+        same some 8 2 refl (omega arith) (t .1 .1 .1 .0),
+        same some 12 3 refl (omega arith) (t .1 .1 .1 .1 .0),
+        same some 16 4 refl (omega arith) (t .1 .1 .1 .1 .1),
+      )

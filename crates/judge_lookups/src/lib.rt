@@ -1,11 +1,13 @@
 // What the rules of both tables ask alike: a cell of the memory and what was found there, a gate times what must be 0,
 // and the row paired with one.
+mod buffers;
 mod finding;
 mod lookup;
 
 pub use finding::found_five;
 pub use finding::found_one;
 pub use finding::nothing;
+pub use lookup::five_held;
 pub use lookup::looks_up;
 pub use lookup::looks_up_five;
 ghost use mathlib.Core.Path.{_≡_};

@@ -11,12 +11,13 @@ use judge_ext::ext_rule;
 use judge_lookups::next_row;
 use rows::exec_inside;
 ghost use mathlib.Core.Path.{_≡_};
-ghost use mathlib.Core.List.{[]};
+ghost use mathlib.Core.List.{[], _++_};
 ghost use Prim.Native.Nat.{_/_, _%_, _<_};
 ghost use lib.ListN.{length};
 ghost use Rattle.rules.specs.Sizes.{given, tables};
 ghost use Rattle.judge_spec.specs.Judged.{execFailing, extFailing};
 ghost use Rattle.bus_tuples.specs.Order.{pulledBy};
+ghost use Rattle.judge_lookups.specs.Memory.{SeamBetween};
 ghost use Rattle.judge_walks.specs.Walks.{Tested, thirtyWords};
 
 // What the walk over the execution table tells: the first row that fails and its rule; whether there is none and all
@@ -37,9 +38,16 @@ pub struct Extended {
 }
 
 // A table of whole rows.
-pub fn exec_walk(program: &[u8], memory: &[u8], exec: &[u8], ext: &[u8]) -> Executed
+pub fn exec_walk<'a>(
+    program: &[u8],
+    public: &'a [u8],
+    rest: &'a [u8],
+    exec: &[u8],
+    ext: &[u8],
+) -> Executed
+    requires { ⌜ SeamBetween (now public) ⌝ }
     requires { ⌜ length (now exec) % 32 ≡ 0 ⌝ }
-    ensures { λ e. ⌜ Tested (execFailing (given (now (program .entry)) (now (memory .entry))) (tables (now (exec .entry)) [])) (length (now (exec .entry)) / 32) (now (exec .entry)) (e .at) (e .rule) (e .words)
+    ensures { λ e. ⌜ Tested (execFailing (given (now (program .entry)) (now (public .entry) ++ now (rest .entry))) (tables (now (exec .entry)) [])) (length (now (exec .entry)) / 32) (now (exec .entry)) (e .at) (e .rule) (e .words)
         × (e .pulled ≡ pulledBy (now (program .entry)) (now (exec .entry)) (now (ext .entry)) (e .at)) ⌝ }
 {
     let n = exec.len() / 32;
@@ -49,10 +57,10 @@ pub fn exec_walk(program: &[u8], memory: &[u8], exec: &[u8], ext: &[u8]) -> Exec
     while r < n {
         let x = exec_inside(exec, 32 * r);
         let y = exec_inside(exec, 32 * next_row(n, r));
-        if exec_failing(program, memory, exec, r, x, y) != 0 {
+        if exec_failing(program, public, rest, exec, r, x, y) != 0 {
             return Executed {
                 at: r,
-                rule: exec_rule(program, memory, exec, r),
+                rule: exec_rule(program, public, rest, exec, r),
                 words: false,
                 pulled,
             };
@@ -82,18 +90,19 @@ fn thirty_words(ext: &[u8], r: usize) -> bool
 }
 
 // The same of a table of extension rows.
-pub fn ext_walk(memory: &[u8], ext: &[u8]) -> Extended
+pub fn ext_walk<'a>(public: &'a [u8], rest: &'a [u8], ext: &[u8]) -> Extended
+    requires { ⌜ SeamBetween (now public) ⌝ }
     requires { ⌜ length (now ext) % 120 ≡ 0 ⌝ }
-    ensures { λ e. ⌜ Tested (extFailing (given [] (now (memory .entry))) (tables [] (now (ext .entry)))) (length (now (ext .entry)) / 120) (now (ext .entry)) (e .at) (e .rule) (e .words) ⌝ }
+    ensures { λ e. ⌜ Tested (extFailing (given [] (now (public .entry) ++ now (rest .entry))) (tables [] (now (ext .entry)))) (length (now (ext .entry)) / 120) (now (ext .entry)) (e .at) (e .rule) (e .words) ⌝ }
 {
     let n = ext.len() / 120;
     let mut words = true;
     let mut r = 0;
     while r < n {
-        if ext_failing(memory, ext, n, r) != 0 {
+        if ext_failing(public, rest, ext, n, r) != 0 {
             return Extended {
                 at: r,
-                rule: ext_rule(memory, ext, r),
+                rule: ext_rule(public, rest, ext, r),
                 words: false,
             };
         }

@@ -1,10 +1,11 @@
-// The C library: the judge, form counts, programs from draft 0.5.0, listings, streams, range checks and the label
-// reader, as include/uisnabar.h declares them.
+// The C library: the judge on one buffer and on two, form counts, programs from draft 0.5.0, listings, streams, range
+// checks and the label reader, as include/uisnabar.h declares them.
 mod editions;
 mod forms;
 mod listings;
 mod ranges;
 mod streams;
+mod two_buffers;
 
 use answer::Answer;
 use answer::accepted;
@@ -20,6 +21,7 @@ use reply::misfit;
 use reply::reply;
 pub use streams::uisnabar_host;
 pub use streams::uisnabar_jump;
+pub use two_buffers::uisnabar_judge_split;
 use word::put_word;
 ghost use mathlib.Core.Path.{_≡_};
 ghost use lib.ListN.{length};

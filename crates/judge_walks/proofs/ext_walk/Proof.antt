@@ -1,7 +1,7 @@
 -- The walk stops at the first row that has a rule that fails.
 use borrow.Author.Needs.{needs}
 use mathlib.Core.Path.{_≡_, refl, sym, _∙_}
-use mathlib.Core.List.{List, []}
+use mathlib.Core.List.{List, [], _++_}
 use Prim.Native.Nat.{ℕ, _+_, _-_, _*_, _/_}
 use native.Mathlib.Omega.{arith}
 use lib.ListN.{length}
@@ -22,11 +22,11 @@ thirty ext r =
     eight-more ext _ i (i + 24) (i + 22) (i + 30) (omega arith) (omega arith) (omega arith) (omega arith) more
 
 abbrev Inv-loop : tie.InvT-loop
-Inv-loop memory ext n words₀ r₀ words r =
-    (n ≡ length ext / 120) × At (extFailing (given [] memory) (tables [] ext)) (length ext / 120) ext 30 r words
+Inv-loop public rest ext n words₀ r₀ words r =
+    (n ≡ length ext / 120) × At (extFailing (given [] (public ++ rest)) (tables [] ext)) (length ext / 120) ext 30 r words
 
 abbrev μ-loop : tie.MeasureT-loop
-μ-loop memory ext n words₀ r₀ words r = n - r
+μ-loop public rest ext n words₀ r₀ words r = n - r
 
 loop-holds : tie.Need-loop-holds Inv-loop μ-loop
 loop-holds c = (refl, at-first _ _ _ 30)
@@ -43,7 +43,7 @@ loop-again c =
     let words = c .thirty-words in
     let tried = c .before .before in
     let loop = tried .before .before .loop in
-    let ext = tried .before .before .before .before .before .args .ext .now in
+    let ext = tried .before .before .before .before .before .before .args .ext .now in
     let rule = tried .ext-failing .ensures in
     (refl, row-passed _ _ _ 30 (loop .inv .1) (words .result) (omega arith) (sym rule ∙ c .before .if1 .left) (rw (words .ensures) (thirty ext (loop .r))))
 

@@ -1,6 +1,7 @@
 -- Selected values that are words are those of the rules, their addresses too, and each group is passed.
 use borrow.Author.Needs.{needs}
 use borrow.Author.Tests.{not-false, leb-false}
+use mathlib.Core.List.{_++_}
 use lib.Dec.{leb}
 use Rattle.word.specs.Word.{p}
 use Rattle.judge_lookups.proofs.Quick.{never}
@@ -14,12 +15,12 @@ returns-4 c e =
     let else2 = else3 .before .before in
     let third = else2 .before in
     let else1 = third .before .before .before in
-    let args = else1 .before .before .before .args in
+    let args = else1 .before .before .before .before .args in
     let picked = third .before .before .picked in
     let picked2 = third .before .picked2 in
     let picked3 = third .picked3 in
     let words = none-of-three (leb p (picked .result)) (leb p (picked2 .result)) (leb p (picked3 .result)) (else2 .if2 .left) in
-    all-hold (args .memory .now) (args .x) (args .y) (args .i)
+    all-hold (args .public .now ++ args .rest .now) (args .x) (args .y) (args .i)
     (picked .result) (picked2 .result) (picked3 .result) (c .before .jump-taken .result)
     (picked .ensures (leb-false _ _ (words .0)))
     (picked2 .ensures (leb-false _ _ (words .1)))

@@ -22,7 +22,7 @@ returns-4 : tie.Need-returns-4
 unfolding foundUnder
 returns-4 c =
     let else3 = c .before in
-    let rule = else3 .before .before .before .before .before .before .args .rule in
+    let rule = else3 .before .before .before .before .before .before .before .args .rule in
     rw (
       ne-eqb 2 rule (λ e. else3 .before .before .if1 .left (sym e)),
       ne-eqb 3 rule (λ e. else3 .before .if2 .left (sym e)),

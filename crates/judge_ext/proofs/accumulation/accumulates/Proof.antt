@@ -18,7 +18,7 @@ returns c =
     let args = inside .before .before .args in
     let x = inside .ext-inside .result in
     let off = each (eqb (x .add) 0) (eqb (x .mul) 0 ∷ eqb (x .peq) 0 ∷ []) (c .if1 .taken) in
-    idle (args .ext .now) (args .r) (args .rest)
+    idle (args .ext .now) (args .r) (args .after)
     (inside .ext-inside .ensures)
     (after .before .gated-elements .ensures)
     (after .first-of .ensures)
@@ -32,7 +32,7 @@ returns-2 c =
     let after = paired .before .before .before .before .before .before in
     let inside = after .before .before .before .before in
     let args = inside .before .before .args in
-    operated (args .ext .now) (args .r) (args .rest)
+    operated (args .ext .now) (args .r) (args .after)
     (inside .ext-inside .ensures)
     (paired .ext-inside2 .ensures ∙ ap (λ k. extAt (args .ext .now) (120 * k)) (paired .before .next-row .ensures .0))
     (after .before .gated-elements .ensures)

@@ -1,6 +1,7 @@
 -- The groups that the code walks are the rules; each call gives the definition's part.
 use borrow.Author.Needs.{needs}
 use mathlib.Core.Path.{_∙_, ap}
+use mathlib.Core.List.{_++_}
 use Prim.Native.Nat.{_*_}
 use Rattle.rows.specs.Rows.{extAt}
 use Rattle.judge_ext.proofs.AllRules.{walked}
@@ -13,8 +14,8 @@ returns c =
     let step = after .before .before in
     let paired = step .before .before in
     let row = paired .before .before in
-    let args = row .before .before .before .args in
-    walked (args .ext .now) (args .r) (args .memory .now)
+    let args = row .before .before .before .before .args in
+    walked (args .ext .now) (args .r) (args .public .now ++ args .rest .now)
     (row .ext-inside .ensures)
     (paired .ext-inside2 .ensures ∙ ap (λ k. extAt (args .ext .now) (120 * k)) (paired .before .next-row .ensures .0))
     (step .before .sub .ensures)

@@ -26,7 +26,7 @@ returns-5 : tie.Need-returns-5
 unfolding foundUnder
 returns-5 c =
     let else4 = c .before in
-    let rule = else4 .before .before .before .before .before .before .before .before .before .before .args .rule in
+    let rule = else4 .before .before .before .before .before .before .before .before .before .before .before .args .rule in
     rw (
       ne-eqb 18 rule (λ e. else4 .before .before .before .if1 .left (sym e)),
       ne-eqb 19 rule (λ e. else4 .before .before .if2 .left (sym e)),
