@@ -12,7 +12,7 @@ returns-2 : tie.Need-returns-2
 returns-2 c = let s = c .before .before .args in too-long (s .public) (s .rest) (omega (arith, c .if2 .taken))
 
 returns-3 : tie.Need-returns-3
-returns-3 c = cc
+returns-3 c = rw (c .memory-fits .ensures, c .before .public-fits .ensures)
 
 pub split-fits-spec : {M : Type 1} → statement M
 split-fits-spec =
