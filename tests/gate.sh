@@ -135,6 +135,11 @@ ranges() {
     against ranges && python3 tests/ranges.py cases | emulated target/c/ranges | python3 tests/ranges.py compare
 }
 
+# splits: memories in two buffers by hand and by the Python implementation, through the library
+splits() {
+    against split && python3 tests/split.py cases | emulated target/c/split | python3 tests/split.py compare
+}
+
 page_checks() {
     stage "layout, contracts, pages"
     check "layout (rt fmt --check)" rt fmt --check
@@ -175,6 +180,7 @@ run_checks() {
     check "listings: by hand, of the shelf and of every form, every cut and every change of a byte" listings
     check "streams: by hand, every jump of up to a million draws, every edge of a host" streams
     check "range checks: by hand, of every kind of near miss, by chance, in rooms of every kind" ranges
+    check "public words in their own buffer: lengths, lookups about the seam, every verdict at every cut" splits
     check "library and second implementation agree" differ 1 40000
     check "the same at the end of a page, on a small stack" differ --page 2 4000
     check "the same on large tables, in rounds and windows, accepted and refused" differ --large

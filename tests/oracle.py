@@ -5,8 +5,8 @@ Sources: document 01 ("01, <heading>"), document 02's M-103, M-104 and M-107 ("0
 compared with, and is plain rather than fast. Here are labels, maker and tabler; words, elements and answers are in
 oracle_words.py, the judge in oracle_judge.py, form counts in oracle_forms.py, programs of draft 0.5.0 in
 oracle_editions.py, listings in oracle_listings.py, jumps and hosts in oracle_streams.py, range checks in
-oracle_ranges.py. Run as a program it checks itself, and them, by oracle_check.py, oracle_lookups.py,
-oracle_versions.py, oracle_runs.py and what those five have of their own.
+oracle_ranges.py, the judge of a memory in two buffers in oracle_split.py. Run as a program it checks itself, and them,
+by oracle_check.py, oracle_lookups.py, oracle_versions.py, oracle_runs.py and what those six have of their own.
 """
 
 import struct
@@ -216,12 +216,13 @@ if __name__ == "__main__":
     import oracle_lookups
     import oracle_ranges
     import oracle_runs
+    import oracle_split
     import oracle_streams
     import oracle_versions
 
     CHECKED = [part.self_check() for part in (oracle_check, oracle_lookups, oracle_forms, oracle_editions,
                                               oracle_versions, oracle_runs, oracle_listings, oracle_streams,
-                                              oracle_ranges)]
+                                              oracle_ranges, oracle_split)]
     PASSED, FAILED = ([line for part in parts for line in part] for parts in zip(*CHECKED))
     print("\n".join(FAILED) or "oracle: %d checks passed" % len(PASSED))
     sys.exit(bool(FAILED))

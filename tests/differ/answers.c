@@ -2,6 +2,7 @@
  * accepted; among them the 16 bytes of the four numbers that there were once. */
 #include "listings.h"
 #include "olds.h"
+#include "splits.h"
 #include "tries.h"
 
 enum { TEXT = 37, ROWS = 256 };
@@ -10,7 +11,7 @@ static const second_recipe recipe = { 1, 10, 1, 2 };
 static uint8_t parts[PARTS][4 * EXT_WORDS * ROWS];
 static uint8_t text[TEXT], fresh[SECOND_GRID_BYTES], old[OLD_UNIT];
 
-/* Judge, count, finder of ranges and tabler, on the recipe's tables. */
+/* Both judges, count, finder of ranges and tabler, on the recipe's tables. */
 static attempt on_tables(differ *d, enum function f)
 {
     world w = { .pc = 0 };
@@ -23,6 +24,8 @@ static attempt on_tables(differ *d, enum function f)
     second_make(recipe, parts[PROGRAM], w.len[PROGRAM], parts[MEMORY],
                 w.len[MEMORY]);
     second_tables(&w);
+    if (f == SPLIT)
+        return split_of(d, &w, unit_of(MEMORY), w.len[MEMORY] - unit_of(MEMORY));
     attempt t = attempt_on(d, f, &w);
     if (f == COUNT)
         t.lent[PARTS] = (buffer){ fresh, sizeof fresh, false };
@@ -96,6 +99,7 @@ static attempt accepted(differ *d, enum function f)
     case JUDGE:
     case COUNT:
     case RANGES:
+    case SPLIT:
     case TABLER:
         return on_tables(d, f);
     case REPORT:

@@ -202,19 +202,10 @@ static uint32_t some_start(builder *b, uint32_t last)
     return once_in(b->random, 6) ? 0 : below(b->random, last + 1);
 }
 
-void put_group_in(builder *b, uint32_t n, const uint32_t modes[3])
+void put_group_at(builder *b, uint32_t n, bool be, const uint32_t from[2],
+                  uint32_t to, const uint32_t modes[3])
 {
-    uint32_t form[FORM_WORDS] = { 0 }, kind = below(b->random, 3), to;
-    bool be = once_in(b->random, 2);
-    uint32_t a_cells = be ? n + 4 : 5 * n;
-    if (n == 0 || a_cells > b->cells || 5 * n > b->cells)
-        return;
-    const uint32_t from[2] = { some_start(b, b->cells - a_cells),
-                               some_start(b, b->cells - 5 * n) };
-    pin(b, from[0], be ? n : 5 * n);
-    pin(b, from[1], 5 * n);
-    if (!find_free(b, 5, &to))
-        return;
+    uint32_t form[FORM_WORDS] = { 0 }, kind = below(b->random, 3);
     element all = group_result(b, kind, be, n, from);
     set_cells(b, to, all.at, 5);
     form[W_DATA] = 2 * (uint32_t)be + (4u << kind) + 32 * n;
@@ -223,6 +214,21 @@ void put_group_in(builder *b, uint32_t n, const uint32_t modes[3])
     give_operand(b, form, OP_C, modes[OP_C], to);
     put_form(b, form);
     b->used += n;
+}
+
+void put_group_in(builder *b, uint32_t n, const uint32_t modes[3])
+{
+    uint32_t to;
+    bool be = once_in(b->random, 2);
+    uint32_t a_cells = be ? n + 4 : 5 * n;
+    if (n == 0 || a_cells > b->cells || 5 * n > b->cells)
+        return;
+    const uint32_t from[2] = { some_start(b, b->cells - a_cells),
+                               some_start(b, b->cells - 5 * n) };
+    pin(b, from[0], be ? n : 5 * n);
+    pin(b, from[1], 5 * n);
+    if (find_free(b, 5, &to))
+        put_group_at(b, n, be, from, to, modes);
 }
 
 /* A and B are fp-relative together. */

@@ -1,5 +1,5 @@
-/* Inside build.c, builder.c, forms.c, old_build.c and what ranges.h has only:
- * single instructions. */
+/* Inside build.c, builder.c, forms.c, old_build.c and what ranges.h and splits.h
+ * have only: single instructions. */
 #ifndef DIFFER_BUILDER_H
 #define DIFFER_BUILDER_H
 
@@ -48,6 +48,11 @@ void put_deref_in(builder *b, uint32_t mode_c);
 void put_jump_in(builder *b, const uint32_t modes[3], bool taken, uint32_t to,
                  uint32_t frame);
 void put_group_in(builder *b, uint32_t n, const uint32_t modes[3]);
+
+/* A group that reads A and B from the cells given, all of which are there, and
+ * has its result in five others, which nothing else may rely on. */
+void put_group_at(builder *b, uint32_t n, bool be, const uint32_t from[2],
+                  uint32_t to, const uint32_t modes[3]);
 
 /* A well-formed instruction that is not meant to be run. */
 void put_dead_form(builder *b);

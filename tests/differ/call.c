@@ -88,7 +88,7 @@ static uint32_t call_stream_pair(const attempt *t, const slot *s)
         t->state, t->number, s[0].lent, s[0].len, s[1].lent, s[1].len);
 }
 
-/* Judge, count and finder of ranges. */
+/* Both judges, count and finder of ranges. */
 static uint32_t call_on_tables(const attempt *t, const slot *s)
 {
     switch (t->function) {
@@ -100,6 +100,11 @@ static uint32_t call_on_tables(const attempt *t, const slot *s)
         return uisnabar_count(s[0].lent, s[0].len, s[1].lent, s[1].len, t->pc,
                               t->fp, s[2].lent, s[2].len, s[3].lent, s[3].len,
                               s[4].lent, s[4].len, s[5].lent, s[5].len);
+    case SPLIT:
+        return uisnabar_judge_split(s[0].lent, s[0].len, s[1].lent, s[1].len,
+                                    s[2].lent, s[2].len, t->pc, t->fp,
+                                    s[3].lent, s[3].len, s[4].lent, s[4].len,
+                                    s[5].lent, s[5].len);
     default:
         return uisnabar_ranges(s[0].lent, s[0].len, s[1].lent, s[1].len, t->pc,
                                t->fp, s[2].lent, s[2].len, s[3].lent, s[3].len,
@@ -116,6 +121,7 @@ static void call_library(void *at)
     case JUDGE:
     case COUNT:
     case RANGES:
+    case SPLIT:
         c->returned = call_on_tables(c->t, s);
         break;
     case LABEL_READER:

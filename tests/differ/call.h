@@ -20,7 +20,7 @@ typedef struct {
  * answer's last but for the label reader, whose recipe comes after it. */
 typedef struct {
     enum function function;
-    uint64_t pc, fp;      /* judge, count, finder and tabler */
+    uint64_t pc, fp;      /* judges, count, finder and tabler */
     second_recipe recipe; /* maker and writer */
     uint64_t state, number; /* jump and host: a seed, and draws or a host */
     buffer lent[SLOTS];
@@ -49,8 +49,8 @@ void note(differ *d, const char *format, ...);
 void note_back(differ *d, size_t len);
 
 /* More calls are asked for.  Counts, reports, translations with what is tabled
- * of these, listings, streams, range checks and recipes' runs come beside, so
- * that they take the place of no other. */
+ * of these, listings, streams, range checks, memories in two buffers and recipes'
+ * runs come beside, so that they take the place of no other. */
 static inline bool more_calls(const differ *d)
 {
     return d->calls - d->extra < d->limit;

@@ -110,5 +110,6 @@ bool try_large(void)
     good &= try_dense(16, 14);
     good &= try_large_olds();
     good &= try_large_listings();
-    return try_large_ranges() && good;
+    good &= try_large_ranges();
+    return try_large_splits() && good;
 }

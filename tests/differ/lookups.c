@@ -4,14 +4,7 @@
 
 #include "tries.h"
 
-/* The columns of a rule's index and of its first value. */
-typedef struct {
-    int part;
-    uint32_t index, value, count;
-} lookup;
-
-/* In the order of lookup_rules. */
-static const lookup lookups[LOOKUPS] = {
+const lookup lookups[LOOKUPS] = {
     { EXECUTION, ADDR_A, VALUE_A, 1 },   { EXECUTION, ADDR_B, VALUE_B, 1 },
     { EXECUTION, ADDR_C, VALUE_C, 1 },   { EXTENSIONS, X_IDX_A, X_BASE, 1 },
     { EXTENSIONS, X_IDX_A, X_VA, FIVE }, { EXTENSIONS, X_IDX_B, X_VB, FIVE },
@@ -98,10 +91,8 @@ void count_lookup(lookup_tally *l, const attempt *t, second_answer a)
 
 /* ---- failing ---- */
 
-/* The cells from an index on as a row's values, but that those with a bit in
- * `off` are others.  A cell that is missing is taken for 0. */
-static void fail(differ *d, world *w, const lookup *l, uint32_t row,
-                 uint32_t index, uint32_t off)
+void put_lookup(differ *d, world *w, const lookup *l, uint32_t row,
+                uint32_t index, uint32_t off)
 {
     uint32_t cells = count_of(w, MEMORY);
     put(w, l->part, row, l->index, index);
@@ -139,7 +130,8 @@ void damage_lookup(differ *d, world *w, int part, uint32_t row)
                                     : 3 + below(&d->random, LOOKUPS - 3);
     const lookup *l = &lookups[at];
     uint32_t index = some_index(d, w, l, row);
-    fail(d, w, l, row, index, 1 + below(&d->random, (1u << l->count) - 1));
+    put_lookup(d, w, l, row, index,
+               1 + below(&d->random, (1u << l->count) - 1));
     if (once_in(&d->random, 8)) /* 0 is a word as any other */
         put(w, part, row, l->value + below(&d->random, l->count), 0);
 }
@@ -191,7 +183,7 @@ static uint32_t start_case(differ *d, const lookup *l, uint32_t index,
     note_back(d, 0);
     note(d, "a lookup");
     world_copy(&other, &right);
-    fail(d, &other, l, row, index, off);
+    put_lookup(d, &other, l, row, index, off);
     return row;
 }
 

@@ -5,6 +5,20 @@
 #include "call.h"
 #include "world.h"
 
+/* The columns of a rule's index and of its first value. */
+typedef struct {
+    int part;
+    uint32_t index, value, count;
+} lookup;
+
+/* In the order of lookup_rules. */
+extern const lookup lookups[LOOKUPS];
+
+/* The cells from an index on as a row's values, but that those with a bit in
+ * `off` are others.  A cell that is missing is taken for 0. */
+void put_lookup(differ *d, world *w, const lookup *l, uint32_t row,
+                uint32_t index, uint32_t off);
+
 /* Counts what the rows of a refused call say of a lookup. */
 void count_lookup(lookup_tally *l, const attempt *t, second_answer a);
 

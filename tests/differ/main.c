@@ -2,13 +2,15 @@
  *
  *   differ SEED CALLS             stops after that many calls, counts, reports,
  *                                 translations, listings, streams, range checks,
- *                                 recipes' runs and the lists of versions.c,
- *                                 lookups.c and answers.c not among them
+ *                                 memories in two buffers, recipes' runs and the
+ *                                 lists of versions.c, lookups.c and answers.c
+ *                                 not among them
  *   differ SEED 0 SECONDS         stops after that long
  *   differ --page SEED CALLS      buffers at pages that fault, small stack
  *   differ --large                a few tables of 16,383 and of 32,767 groups,
  *                                 old programs and listings of 2^20
- *                                 instructions, and 131,071 range checks
+ *                                 instructions, 131,071 range checks, and a
+ *                                 memory of 2^22 words in two buffers
  *
  * Ends with 0 if there is no difference and everything listed in tally.c was
  * reached, 1 if not, 2 if it could not run. */
@@ -75,6 +77,7 @@ static void run(differ *d, uint64_t seconds)
     try_listing_sweeps(d);
     try_stream_edges(d);
     try_range_edges(d);
+    try_split_edges(d);
     try_versions(d);
     try_runs(d);
     try_lookups(d);
@@ -106,7 +109,7 @@ int main(int argc, char **argv)
     printf("seed %" PRIu64 "\n", seed);
     if (!differ_open(&all, seed, paged) || !rounds_open() || !forms_open()
         || !lookups_open() || !runs_open() || !old_runs_open()
-        || !ranges_open()) {
+        || !ranges_open() || !splits_open()) {
         fprintf(stderr, "differ: no room\n");
         return 2;
     }
@@ -119,7 +122,7 @@ int main(int argc, char **argv)
     end_campaign(&all);
     bool complete = tally_report(&all.reached);
     printf("calls: %" PRIu64 ", and %" PRIu64 " of counts, reports, "
-           "translations, listings, streams, ranges, runs and lists\n"
+           "translations, listings, streams, ranges, splits, runs and lists\n"
            "differences: %" PRIu64 "\n",
            all.calls - all.extra, all.extra, all.differences);
     return complete && all.differences == 0 ? 0 : 1;

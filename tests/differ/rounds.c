@@ -1,7 +1,8 @@
-/* One world, tabled, judged, counted and searched as it is and in many other
- * ways. */
+/* One world, tabled, judged, also with its memory in two buffers, counted and
+ * searched as it is and in many other ways. */
 #include "ranges.h"
 #include "runs.h"
+#include "splits.h"
 #include "tries.h"
 
 enum { JUDGED = 10 };
@@ -46,6 +47,7 @@ static void try_spoiled_tabler(differ *d)
 static void judge_and_more(differ *d, const world *w)
 {
     try_judge(d, w);
+    try_split(d, w);
     try_count(d, w);
     try_ranges(d, w);
 }

@@ -6,7 +6,7 @@
 const char *const function_names[FUNCTIONS] = {
     "judge", "label reader", "tabler", "maker", "label writer", "count",
     "report", "translation", "lister", "listing reader", "stream jump",
-    "stream host", "finder of ranges"
+    "stream host", "finder of ranges", "judge of two buffers"
 };
 
 static const char *const verdict_names[VERDICTS] = {
@@ -67,6 +67,9 @@ static const bool expected[FUNCTIONS][VERDICTS] = {
                  [INSTRUCTION] = true, [START] = true, [EXEC] = true,
                  [EXTENSION] = true, [BUS] = true, [ANSWER] = true,
                  [LIST] = true },
+    [SPLIT] = { [ACCEPTED] = true, [SIZE] = true, [WORD] = true,
+                [INSTRUCTION] = true, [START] = true, [EXEC] = true,
+                [EXTENSION] = true, [BUS] = true, [ANSWER] = true },
 };
 
 /* A number outside its table is a difference's business, not the tally's. */
@@ -108,7 +111,7 @@ typedef struct {
     uint32_t first, last; /* each from first to last must be reached */
 } line;
 
-enum { LINES = 21 };
+enum { LINES = 23 };
 
 static void lines_of(const tally *t, line out[LINES])
 {
@@ -134,6 +137,8 @@ static void lines_of(const tally *t, line out[LINES])
         { "lister's WORD part", t->word[LISTER], 1, 1 },
         { "finder's SIZE part", t->size[RANGES], 1, LAST_PART },
         { "finder's WORD part", t->word[RANGES], 1, LAST_PART },
+        { "split judge's SIZE part", t->size[SPLIT], 1, LAST_PART },
+        { "split judge's WORD part", t->word[SPLIT], 1, LAST_PART },
     };
     for (int i = 0; i < LINES; i++)
         out[i] = all[i];
@@ -223,5 +228,6 @@ bool tally_report(const tally *t)
     complete = listing_report(&t->listings) && complete;
     complete = stream_report(&t->streams) && complete;
     complete = range_report(&t->ranges) && complete;
+    complete = split_report(&t->splits) && complete;
     return old_report(&t->olds) && complete;
 }

@@ -10,12 +10,13 @@
 #include "old_tally.h"
 #include "range_tally.h"
 #include "run_tally.h"
+#include "split_tally.h"
 #include "stream_tally.h"
 #include "version_tally.h"
 
 enum function { JUDGE, LABEL_READER, TABLER, MAKER, LABEL_WRITER, COUNT, REPORT,
                 TRANSLATE, LISTER, LIST_READER, STREAM_JUMP, STREAM_HOST,
-                RANGES, FUNCTIONS };
+                RANGES, SPLIT, FUNCTIONS };
 
 /* The documents' verdicts; 12 is none of them (02, M-107). */
 enum { ACCEPTED, SIZE, WORD, INSTRUCTION, START, EXEC, EXTENSION, BUS, LABEL,
@@ -53,6 +54,7 @@ typedef struct {
     listing_tally listings;
     stream_tally streams;
     range_tally ranges;
+    split_tally splits;
 } tally;
 
 extern const char *const function_names[FUNCTIONS];

@@ -59,6 +59,11 @@ bool ranges_open(void);
 void try_range_world(differ *d);
 void try_range_edges(differ *d);
 
+/* splits.c: once, memories in two buffers: every cut of small ones, lookups and
+ * words about the seam, lengths. */
+bool splits_open(void);
+void try_split_edges(differ *d);
+
 /* large.c: tables of many groups; false where the two differ. */
 bool try_large(void);
 
@@ -70,6 +75,9 @@ bool try_large_listings(void);
 
 /* large_ranges.c: a table of nothing but range checks. */
 bool try_large_ranges(void);
+
+/* large_split.c: a large memory in two buffers. */
+bool try_large_splits(void);
 
 /* limits.c: lengths at the largest of each part and just above. */
 void try_limits(differ *d);

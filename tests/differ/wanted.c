@@ -10,7 +10,7 @@ typedef struct {
     uint64_t found;     /* of the finder of ranges */
 } given;
 
-/* Judge, count and finder of ranges. */
+/* Both judges, count and finder of ranges. */
 static second_answer on_tables(const attempt *t, const slot *s, given *out)
 {
     switch (t->function) {
@@ -22,6 +22,10 @@ static second_answer on_tables(const attempt *t, const slot *s, given *out)
         return (t->sorted ? second_count_sorted : second_count)(
             s[0].mirror, s[0].len, s[1].mirror, s[1].len, t->pc, t->fp,
             s[2].mirror, s[2].len, s[3].mirror, s[3].len, s[4].mirror);
+    case SPLIT:
+        return (t->sorted ? second_judge_split_sorted : second_judge_split)(
+            s[0].mirror, s[0].len, s[1].mirror, s[1].len, s[2].mirror, s[2].len,
+            t->pc, t->fp, s[3].mirror, s[3].len, s[4].mirror, s[4].len);
     default:
         return (t->sorted ? second_ranges_sorted : second_ranges)(
             s[0].mirror, s[0].len, s[1].mirror, s[1].len, t->pc, t->fp,
@@ -37,6 +41,7 @@ static second_answer second_answers(const attempt *t, const slot *s, given *out)
     case JUDGE:
     case COUNT:
     case RANGES:
+    case SPLIT:
         return on_tables(t, s, out);
     case LABEL_READER:
         return second_read_label(s[0].mirror, s[0].len, &out->read);
@@ -72,7 +77,7 @@ int answer_slot(enum function f)
         [JUDGE] = 4, [LABEL_READER] = 1, [TABLER] = 4, [MAKER] = 2,
         [LABEL_WRITER] = 1, [COUNT] = 5, [REPORT] = 3, [TRANSLATE] = 2,
         [LISTER] = 3, [LIST_READER] = 3, [STREAM_JUMP] = 1, [STREAM_HOST] = 1,
-        [RANGES] = 6
+        [RANGES] = 6, [SPLIT] = 5
     };
     return slots[f];
 }

@@ -79,8 +79,8 @@ static second_answer count_judged(second_answer judged, const uint8_t *program,
                                   size_t program_len, const uint8_t *exec,
                                   size_t exec_len, uint8_t *grid)
 {
-    parts in = { program, NULL, exec, NULL, program_len / FORM_BYTES, 0,
-                 exec_len / EXEC_BYTES, 0 };
+    parts in = { .program = program, .instructions = program_len / FORM_BYTES,
+                 .exec = exec, .exec_rows = exec_len / EXEC_BYTES };
     return judged.verdict == ACCEPTED ? count_rows(&in, grid) : judged;
 }
 

@@ -11,9 +11,10 @@ static second_answer lookup_answer(second_answer out, const parts *in,
     if ((uint64_t)index + count > in->cells)
         return out;
     uint32_t k = 0;
-    while (k + 1 < count && cell(in, (uint64_t)index + k) == values[k])
+    while (k + 1 < count
+           && cell_of_either(in, (uint64_t)index + k) == values[k])
         k++;
-    out.expected = cell(in, (uint64_t)index + k);
+    out.expected = cell_of_either(in, (uint64_t)index + k);
     out.found = values[k];
     return out;
 }

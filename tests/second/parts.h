@@ -10,10 +10,13 @@ enum { ACCEPTED, SIZE, WORD, INSTRUCTION, START, EXEC, EXTENSION, BUS, LABEL,
 
 enum { FORM_BYTES = 48, EXEC_BYTES = 32, EXT_BYTES = 120 };
 
-/* The lent parts with their lengths in instructions, cells and rows. */
+/* The lent parts with their lengths in instructions, cells and rows.  Cells from
+ * the seam on are in rest; in one buffer there are none. */
 typedef struct {
     const uint8_t *program, *memory, *exec, *ext;
     uint64_t instructions, cells, exec_rows, ext_rows;
+    const uint8_t *rest;
+    uint64_t seam;
 } parts;
 
 /* An instruction. */
@@ -42,9 +45,18 @@ static inline second_answer answer(uint32_t verdict, uint32_t part,
     return out;
 }
 
+/* Of a memory in one buffer. */
 static inline uint32_t cell(const parts *in, uint64_t index)
 {
     return load_word(in->memory + 4 * index);
+}
+
+/* From whichever buffer holds it. */
+static inline uint32_t cell_of_either(const parts *in, uint64_t index)
+{
+    if (index < in->seam)
+        return load_word(in->memory + 4 * index);
+    return load_word(in->rest + 4 * (index - in->seam));
 }
 
 static inline element load_element(const uint8_t *from)
@@ -55,7 +67,7 @@ static inline element load_element(const uint8_t *from)
     return e;
 }
 
-/* The five cells from index; they must exist. */
+/* The five cells from index, of a memory in one buffer; they must exist. */
 static inline element five_cells(const parts *in, uint64_t index)
 {
     return load_element(in->memory + 4 * index);

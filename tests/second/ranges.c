@@ -73,8 +73,8 @@ static second_answer find_judged(second_answer judged, const uint8_t *program,
                                  size_t exec_len, uint8_t *finds,
                                  size_t finds_len, uint64_t *found)
 {
-    parts in = { program, NULL, exec, NULL, program_len / FORM_BYTES, 0,
-                 exec_len / EXEC_BYTES, 0 };
+    parts in = { .program = program, .instructions = program_len / FORM_BYTES,
+                 .exec = exec, .exec_rows = exec_len / EXEC_BYTES };
     *found = 0;
     return judged.verdict == ACCEPTED
          ? list_finds(&in, finds, finds_len, found) : judged;

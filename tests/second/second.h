@@ -1,7 +1,8 @@
-/* A second judge, counter of instruction forms, finder of range checks, tabler,
- * translator of programs of draft 0.5.0, reader and writer of listings,
- * generator's jump, maker and label reader and writer for leanVM test tables,
- * written from the documents alone (see README.md).
+/* A second judge, of a memory in one buffer or in two, counter of instruction
+ * forms, finder of range checks, tabler, translator of programs of draft 0.5.0,
+ * reader and writer of listings, generator's jump, maker and label reader and
+ * writer for leanVM test tables, written from the documents alone (see
+ * README.md).
  *
  * No function here keeps state, so all may be called from several threads.
  * A pointer may be NULL where its length is 0.  Buffers must not overlap. */
@@ -41,6 +42,24 @@ second_answer second_judge_sorted(const uint8_t *program, size_t program_len,
                                   uint64_t pc, uint64_t fp,
                                   const uint8_t *exec, size_t exec_len,
                                   const uint8_t *ext, size_t ext_len);
+
+/* The same of a memory in two buffers: public_words, the first 2^k words for a k
+ * below m, and rest, the other ones of 2^m.  Other pairs of lengths are SIZE part
+ * 2, also where they would join to a good one.  Words and cells are counted as if
+ * the two were joined. */
+second_answer second_judge_split(const uint8_t *program, size_t program_len,
+                                 const uint8_t *public_words, size_t public_len,
+                                 const uint8_t *rest, size_t rest_len,
+                                 uint64_t pc, uint64_t fp,
+                                 const uint8_t *exec, size_t exec_len,
+                                 const uint8_t *ext, size_t ext_len);
+
+/* The same answers, by sorting as second_judge_sorted does. */
+second_answer second_judge_split_sorted(
+    const uint8_t *program, size_t program_len, const uint8_t *public_words,
+    size_t public_len, const uint8_t *rest, size_t rest_len, uint64_t pc,
+    uint64_t fp, const uint8_t *exec, size_t exec_len, const uint8_t *ext,
+    size_t ext_len);
 
 /* Counters of a grid, 8 bytes each, little-endian: counter 27 * kind + 9 * A +
  * 3 * B + C, kinds ADD, MUL, DEREF, JUMP and extension, modes immediate, cell

@@ -229,7 +229,8 @@ second_answer second_table(const uint8_t *program, size_t program_len,
                            uint8_t *ext, size_t ext_len)
 {
     parts in = { program, memory, exec, ext, program_len / FORM_BYTES,
-                 memory_len / 4, exec_len / EXEC_BYTES, ext_len / EXT_BYTES };
+                 memory_len / 4, exec_len / EXEC_BYTES, ext_len / EXT_BYTES,
+                 NULL, memory_len / 4 };
     const size_t len[4] = { program_len, memory_len, exec_len, ext_len };
     second_answer out = refuse(&in, len, pc, fp);
     if (out.verdict != ACCEPTED)

@@ -4,11 +4,9 @@ use borrow.Author.Tests.{lt-ltb, le-ltb, le-leb, lt-leb}
 use mathlib.Core.Path.{_≡_, sym, ap, _∙_}
 use mathlib.Core.List.{List, [], _++_}
 use Prim.Native.Nat.{ℕ, _+_, _-_, _*_, _/_, _%_, _≤_, _<_}
-use native.Mathlib.Nat.{add-zero, add-assoc}
 use native.Mathlib.Omega.{arith}
-use lib.Dec.{ltb}
 use lib.ListN.{length, getD, take, drop, length-append, length-drop}
-use lib.Seq.{length-take-le, take-append-le, drop-append-le, drop-append-add, getD-take, getD-drop}
+use lib.Seq.{length-take-le, take-append-le, drop-append-le, drop-append-add, getD-take}
 use Rattle.word.specs.Bytes.{wordAt}
 use Rattle.word.proofs.Part.{word-drop}
 use Rattle.word.proofs.Tests.{by-order}

@@ -1,12 +1,12 @@
 -- The two lengths: a power from 2^0 on is 1 or a power from 2^1 on, and what is too long for a memory does not fit.
 -- Assumes nothing.
 use borrow.Author.Tests.{eqb-true, le-leb}
-use mathlib.Core.Path.{_≡_, refl, sym, _∙_}
-use mathlib.Core.Bool.{Bool, true, false, true≢false, _&&_, _||_}
+use mathlib.Core.Path.{_≡_, refl, sym}
+use mathlib.Core.Bool.{Bool, true, false, _&&_, _||_}
 use mathlib.Core.List.{[], _∷_}
-use Prim.Native.Nat.{ℕ, zero, suc, _+_, _*_, _/_, _%_, _^_, _≤_, _<_}
+use Prim.Native.Nat.{ℕ, zero, suc, _+_, _/_, _%_, _^_, _≤_, _<_}
 use native.Mathlib.Omega.{arith}
-use lib.Dec.{T, leb, ltb, eqb}
+use lib.Dec.{leb, eqb}
 use Rattle.word.proofs.Tests.{cases, each, from-true}
 use Rattle.rules.specs.Sizes.{isPower, memoryFits}
 use Rattle.judge_spec.proofs.Lengths.{whole}

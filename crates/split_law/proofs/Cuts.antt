@@ -1,17 +1,17 @@
 -- Two lengths pass exactly where they are those of a memory that is cut.
 -- Assumes nothing.
 use borrow.Author.Tests.{eq-eqb, eqb-true, leb-true, le-leb}
-use mathlib.Core.Path.{_≡_, refl, sym, ap, _∙_}
-use mathlib.Core.Bool.{Bool, true, false, _&&_, _||_}
+use mathlib.Core.Path.{_≡_}
+use mathlib.Core.Bool.{true, _||_}
 use mathlib.Core.List.{[], _∷_}
-use Prim.Native.Nat.{ℕ, zero, suc, _+_, _-_, _*_, _/_, _%_, _^_, _≤_, _<_}
+use Prim.Native.Nat.{ℕ, zero, suc, _+_, _-_, _/_, _%_, _^_, _≤_, _<_}
 use native.Mathlib.Omega.{arith}
-use lib.Dec.{T, leb, eqb}
+use lib.Dec.{leb, eqb}
 use lib.Pow.{pow-mono, pow-lt}
 use Rattle.word.proofs.Tests.{is-true, each, either, by-order}
 use Rattle.rules.specs.Sizes.{isPower, memoryFits}
 use Rattle.judge_spec.proofs.Lengths.{power-passes}
-use Rattle.split_spec.specs.Split.{publicFits, splitFits}
+use Rattle.split_spec.specs.Split.{splitFits}
 use Rattle.split_law.specs.Splits.{Cut}
 
 -- a power in a range, and which it is

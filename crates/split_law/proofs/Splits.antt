@@ -1,6 +1,6 @@
 -- What the judge over two buffers answers, by the lengths of the two.
 -- Assumes nothing.
-use mathlib.Core.Path.{_≡_, refl, sym, ap, _∙_}
+use mathlib.Core.Path.{_≡_, sym, ap, _∙_}
 use mathlib.Core.Logic.{_↔_}
 use mathlib.Core.Bool.{Bool, true, false, true≢false}
 use mathlib.Core.List.{[], _∷_, _++_}
@@ -19,7 +19,7 @@ use Rattle.judge_spec.specs.Judged.{judgeOf}
 use Rattle.judge_spec.specs.Refusal.{Says}
 use Rattle.judge_spec.proofs.Exactly.{says-exactly}
 use Rattle.split_spec.specs.Split.{SplitParts, joined, publicFits, splitFits, judgeSplitOf}
-use Rattle.split_law.specs.Splits.{Cut, HasCut, cutAt, Splits}
+use Rattle.split_law.specs.Splits.{HasCut, cutAt, Splits}
 use Rattle.split_law.proofs.Cuts.{passes-cut, cut-passes}
 
 module _ (q : SplitParts) where

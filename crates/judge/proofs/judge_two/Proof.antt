@@ -1,8 +1,7 @@
 -- The lowest part of bad length is named; lengths that fit are short, and the answer is that of the stages after.
 use borrow.Author.Needs.{needs}
-use mathlib.Core.Path.{_≡_, sym, ap, _∙_}
+use mathlib.Core.Path.{_≡_, sym, _∙_}
 use mathlib.Core.List.{_++_}
-use Prim.Native.Nat.{ℕ}
 use lib.ListN.{length, length-append}
 use Rattle.rules.specs.Sizes.{programFits, memoryFits, execFits, extFits}
 use Rattle.judge_spec.specs.Judged.{judgeOf}
