@@ -107,6 +107,7 @@ EDITS = [
     ("SHORT for LIST", RANGE + "Finder.antt", r"\bListShort\b", "Short"),
     ("LIST's place in bytes", RANGE + "Finder.antt", r"\(ListShort \(findsNumberIn q\)\)", "(ListShort (8 * findsNumberIn q))"),
     ("a refusal that gives a number", RANGE + "Finder.antt", r"\(findsNumberIn q\) 0$", "(findsNumberIn q) (findsNumberIn q)"),
+    ("bytes after the last find moved up", RANGE + "Finder.antt", r"drop \(8 \* findsNumberIn q\) finds", "drop (findsNumberIn q) finds"),
     ("m' from 1 on", SPLIT, r"isPower \(bytes / 4\) 0 28$", "isPower (bytes / 4) 1 28"),
     ("m' at most 27", SPLIT, r"isPower \(bytes / 4\) 0 28$", "isPower (bytes / 4) 0 27"),
     ("public words of any number", SPLIT, r"isPower \(bytes / 4\) 0 28$", "leb 1 (bytes / 4)"),
@@ -118,7 +119,6 @@ EDITS = [
     ("pc and fp exchanged where the two are joined", SPLIT, r"\(q \.pc\) \(q \.fp\) \(q \.exec\)", "(q .fp) (q .pc) (q .exec)"),
     ("a bad cut told as part 1", SPLIT, r"\(Size 2 0\)\)$", "(Size 1 0))"),
     ("a bad cut told before part 1", SPLIT, r"(?s)cond \(programFits .*?\n    \(cond (.*) \(Size 2 0\)\)\n    \(Size 1 0\)$", r"cond \1 (Size 2 0)"),
-    ("bytes after the last find moved up", RANGE + "Finder.antt", r"drop \(8 \* findsNumberIn q\) finds", "drop (findsNumberIn q) finds"),
 ]
 
 # the crate of theorems that must refuse an edit, by the crate that is edited; of the others it is run
