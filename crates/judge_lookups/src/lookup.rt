@@ -63,7 +63,7 @@ pub fn looks_up_five<'a>(public: &'a [u8], rest: &'a [u8], addr: u32, a: [u32; 5
         & looks_up(public, rest, at + 4, a[4])
 }
 
-// Whether one buffer holds the five, and they are these: read at once, as in nearly every row they are held so.
+// Whether one buffer holds the five, and they are these: read at once. It says no where they cross the seam.
 pub fn five_held<'a>(public: &'a [u8], rest: &'a [u8], addr: u32, a: [u32; 5]) -> bool
     ensures { λ r. ⌜ r ≡ heldAre (now (public .entry)) (now (rest .entry)) addr a ⌝ }
 {

@@ -2,7 +2,7 @@
 -- Assumes nothing.
 use borrow.Author.Tests.{eqb-true, le-leb}
 use mathlib.Core.Path.{_≡_, refl, sym}
-use mathlib.Core.Bool.{Bool, true, false, _&&_, _||_}
+use mathlib.Core.Bool.{Bool, true, false, _&&_, _||_, or-false, and-false}
 use mathlib.Core.List.{[], _∷_}
 use Prim.Native.Nat.{ℕ, zero, suc, _+_, _/_, _%_, _^_, _≤_, _<_}
 use native.Mathlib.Omega.{arith}
@@ -16,14 +16,6 @@ exchanged : (a b c : Bool) → (a || (b || c)) ≡ (b || (a || c))
 exchanged true true c = refl
 exchanged true false c = refl
 exchanged false b c = refl
-
-or-false : (a : Bool) → (a || false) ≡ a
-or-false true = refl
-or-false false = refl
-
-and-false : (a : Bool) → (a && false) ≡ false
-and-false true = refl
-and-false false = refl
 
 pub from-one : (n high : ℕ) → (eqb n 1 || isPower n 1 high) ≡ isPower n 0 high
 from-one n zero = or-false (eqb n 1)

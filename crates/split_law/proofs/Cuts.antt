@@ -1,10 +1,10 @@
 -- Two lengths pass exactly where they are those of a memory that is cut.
 -- Assumes nothing.
 use borrow.Author.Tests.{eq-eqb, eqb-true, leb-true, le-leb}
-use mathlib.Core.Path.{_≡_}
-use mathlib.Core.Bool.{true, _||_}
+use mathlib.Core.Path.{_≡_, refl}
+use mathlib.Core.Bool.{true, false, _||_}
 use mathlib.Core.List.{[], _∷_}
-use Prim.Native.Nat.{ℕ, zero, suc, _+_, _-_, _/_, _%_, _^_, _≤_, _<_}
+use Prim.Native.Nat.{ℕ, zero, suc, _+_, _-_, _*_, _/_, _%_, _^_, _≤_, _<_}
 use native.Mathlib.Omega.{arith}
 use lib.Dec.{leb, eqb}
 use lib.Pow.{pow-mono, pow-lt}
@@ -33,6 +33,31 @@ power-of n low (suc high) e =
     let k = power-of n low high less in
     record { exponent = k .exponent; least = k .least; most = omega (arith, k .most); is = k .is })
     (t .1)
+
+-- by computation: the least and the greatest m', and lengths that are next to valid ones
+least : splitFits 4 1020 ≡ true
+least = refl
+
+greatest : splitFits (4 * 2 ^ 28) (4 * 2 ^ 28) ≡ true
+greatest = refl
+
+no-public-words : splitFits 0 1024 ≡ false
+no-public-words = refl
+
+three-words : splitFits 12 1012 ≡ false
+three-words = refl
+
+one-byte-more : splitFits 5 1019 ≡ false
+one-byte-more = refl
+
+nothing-left : splitFits 1024 0 ≡ false
+nothing-left = refl
+
+two-words-in-all : splitFits 4 4 ≡ false
+two-words-in-all = refl
+
+rest-of-a-memory : splitFits 4 1024 ≡ false
+rest-of-a-memory = refl
 
 pub passes-cut : (public rest : ℕ) → splitFits public rest ≡ true → (m : ℕ) × (m′ : ℕ) × Cut m m′ public rest
 passes-cut public rest e =

@@ -8,7 +8,7 @@ use Prim.Native.Nat.{ℕ, _+_, _-_, _*_, _^_, _≤_, _<_}
 use native.Mathlib.Omega.{arith}
 use lib.Dec.{leb}
 use lib.ListN.{length, take, drop, length-append, length-drop, take-append-drop}
-use lib.Pow.{pow-lt}
+use lib.Pow.{pow-pos, pow-lt}
 use lib.Seq.{length-take-le}
 use Rattle.answer.specs.declared.Answer.{Answer}
 use Rattle.answer.specs.declared.Answer.the-variants.{Accepted, Size}
@@ -85,6 +85,9 @@ module _ (q : SplitParts) where
       let all : length (q .public ++ q .rest) ≡ 1024 = length-append (q .public) (q .rest) ∙ rw (three, others) in
       (rw all, refused (rw three) e)
 
+  no-public-words : program-passes ≡ true → length (q .public) ≡ 0 → judgeSplitOf q ≡ Size 2 0
+  no-public-words e none = others-refused (λ c. absurd (omega (arith, none, c .2 .first, pow-pos (c .1)))) e
+
   nothing-left : program-passes ≡ true → length (q .rest) ≡ 0 → judgeSplitOf q ≡ Size 2 0
   nothing-left e none =
       others-refused (λ c. absurd (omega (arith, none, c .2 .others, pow-lt (c .2 .below)))) e
@@ -109,5 +112,6 @@ splits =
       says-joined = says-joined;
       accepted-joined = accepted-joined;
       three-words = three-words;
+      no-public-words = no-public-words;
       nothing-left = nothing-left;
     }

@@ -43,7 +43,8 @@ pub record Splits : Type 0 where
   pub says-joined : (q : SplitParts) (a : Answer) → HasCut q → (judgeSplitOf q ≡ a) ↔ Says (joined q) a
   -- what is accepted in two buffers is accepted in one
   pub accepted-joined : (q : SplitParts) → judgeSplitOf q ≡ Accepted → HasCut q × (judgeOf (joined q) ≡ Accepted)
-  -- 3 and 253 words join to a memory of 2^8, and are refused; so is m' = m, where nothing is left
+  -- 3 and 253 words join to a memory of 2^8, and are refused; so are no public words, and m' = m, where nothing is left
   pub three-words : (q : SplitParts) → programFits (length (q .program)) ≡ true → length (q .public) ≡ 4 * 3 → length (q .rest) ≡ 4 * 253
       → (memoryFits (length (joined q .memory)) ≡ true) × (judgeSplitOf q ≡ Size 2 0)
+  pub no-public-words : (q : SplitParts) → programFits (length (q .program)) ≡ true → length (q .public) ≡ 0 → judgeSplitOf q ≡ Size 2 0
   pub nothing-left : (q : SplitParts) → programFits (length (q .program)) ≡ true → length (q .rest) ≡ 0 → judgeSplitOf q ≡ Size 2 0
