@@ -1,9 +1,11 @@
 // The answers of document 01, "Verdicts", and of document 02's requests: an enum, and its six numbers.
+#![tactic(auto)]
+
 ghost use Rattle.std.specs.Prelude.{◌≡◌};
 ghost use Rattle.answer.specs.Verdicts.{six, numbers_of, accepted};
 
 // A case for each verdict, in the paper's order, with what the paper names in it.
-#[derive(Drop)]
+#[derive(Clone, Copy)]
 pub enum Answer {
     Accepted,
     Size {
@@ -65,7 +67,7 @@ pub enum Answer {
 }
 
 // An answer as the paper counts it. What a verdict does not name is 0.
-#[derive(Drop)]
+#[derive(Clone, Copy)]
 pub struct Numbers {
     pub verdict: u32,
     pub part: u32,

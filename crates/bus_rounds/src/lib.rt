@@ -1,5 +1,7 @@
 // The bus of tables whose groups stand in any order, settled in rounds: in each the pulls of one class of tuples are
 // put into slots, and every push of that class takes one of its tuple.
+#![tactic(auto)]
+
 mod hash;
 mod put;
 mod slot;

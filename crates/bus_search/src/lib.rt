@@ -1,6 +1,8 @@
 // Where a window of 1024 slots holds a tuple, or where it belongs. A slot is a number of `upper` and one of `lower`;
 // slots 1 to 1023 are kept sorted, and those not used are above every tuple. Nothing is proved of the order: a slot
 // that is found holds the tuple, and the same tuple is always found in the same slot, which is all that counting needs.
+#![tactic(auto)]
+
 mod marks;
 
 ghost use Rattle.std.specs.Prelude.{◌≡◌, ◌+◌, ◌*◌, ◌/◌, ◌%◌, ◌<◌, ◌≤◌};

@@ -1,9 +1,8 @@
--- How often a well_formed_lem instruction pushes: once where it has no opcode word, and else not.
+-- How often a well-formed instruction pushes: once where it has no opcode word, and else not.
 -- Assumes nothing.
 use mathlib.Core.Path.{◌≡◌, sym}
 use mathlib.Core.Bool.{Bool, true, false, not, cond}
 use Prim.Native.Nat.{ℕ}
-use borrow.Author.Tests.{not-true, not-false}
 use Rattle.word.specs.Word.{◌+ₚ◌, ◌-ₚ◌, ◌*ₚ◌}
 use Rattle.form.specs.Form.{well_formed, opcode}
 use Rattle.form.specs.declared.Instruction.{Instruction}
@@ -26,11 +25,11 @@ pushes_by i fits =
     by_kind i f.0.kind (formed_of i f.0 f.1).words
 
 -- so what the code finds says how often
-pub no_push : (b : Bool) {n : ℕ} → cond b 1 0 ≡ n → not b ≡ true → n ≡ 0
-no_push b h e = sym (rw (not-true b e) at h)
+pub no_push : (b : Bool) {n : ℕ} → cond b 1 0 ≡ n → b ≡ false → n ≡ 0
+no_push b h e = sym (rw e at h)
 
-pub one_push : (b : Bool) {n : ℕ} → cond b 1 0 ≡ n → not b ≡ false → n ≡ 1
-one_push b h e = sym (rw (not-false b e) at h)
+pub one_push : (b : Bool) {n : ℕ} → cond b 1 0 ≡ n → b ≡ true → n ≡ 1
+one_push b h e = sym (rw e at h)
 
 pub pushes_one : (i : Instruction) → well_formed i ≡ true → opcode i 0 0 0 ≡ true → pushes i ≡ 1
 pushes_one i fits e = sym (rw e at (pushes_by i fits))

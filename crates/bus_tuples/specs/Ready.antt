@@ -10,7 +10,7 @@ use Rattle.rows.specs.declared.Ext.{Ext}
 abbrev pub Short : List ℕ → Type 0
 Short bytes = length bytes < 2 ^ 32
 
--- every instruction is well_formed_lem, and every row's is one of them
+-- every instruction is well-formed, and every row's is one of them
 pub record Listed (program exec : List ℕ) : Type 0 where
   pub formed : (i : ℕ) → i < length program / 48 → well_formed (instruction_at program (48 * i)) ≡ true
   pub inside : (r : ℕ) → r < length exec / 32 → (exec_at exec (32 * r)).pc < length program / 48

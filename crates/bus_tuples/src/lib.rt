@@ -1,4 +1,6 @@
 // Tuples of the bus: what a row pushes or pulls, how often, and the pulls in the order in which they stand.
+#![tactic(auto)]
+
 mod operand;
 mod order;
 mod row;
@@ -12,7 +14,7 @@ pub use times::{is_precompile, pull_times};
 pub use tuple::{hash, pushed_tuple, same, tuple_at};
 
 // A tuple that a row pushes or pulls on the bus.
-#[derive(Drop)]
+#[derive(Clone, Copy)]
 pub struct Sent {
     pub aux: u32,
     pub left: u32,

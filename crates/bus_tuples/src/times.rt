@@ -7,7 +7,7 @@ ghost use Rattle.bus_tuples.specs.Times.{pull_count};
 use form::Instruction;
 use word::word_inside;
 
-// Whether an instruction has no opcode word: of the well_formed_lem ones those push once, and the others not.
+// Whether an instruction has no opcode word: of the well-formed ones those push once, and the others not.
 pub fn is_precompile(i: Instruction) -> bool
     ensures { result ≡ opcode i 0 0 0 }
 {

@@ -27,19 +27,19 @@ module _ (g : Given) (t : Tables) where
 
     module _ (past : t.height ≤ r) where
       -- no pull is unequal where as much is pulled as is pushed
-      pub same-totals : total (push_times g t) t.height ≡ total (pull_times t) t.ext_height → Accepted ≡ bus g t
-      same-totals same =
+      pub same_totals : total (push_times g t) t.height ≡ total (pull_times t) t.ext_height → Accepted ≡ bus g t
+      same_totals same =
           let all = first_past (push_balanced g t) t.height (omega (arith, push_is)) in
           let none : first_pull g t ≡ t.ext_height = (first_none (pull_balanced g t) t.ext_height).1 (λ k h. totals_balance g t all same k) in
           rw (push_is, le-ltb r t.height past, none, le-ltb t.ext_height t.ext_height (omega arith))
 
       module _ {j : ℕ} (pull : j ≡ first (equal_at g t) t.height (t.height + t.ext_height - t.height)) where
-        pull-is : first_pull g t ≡ j - t.height
-        pull-is = omega (arith, pull ∙ first_pull_lem g t)
+        pull_is : first_pull g t ≡ j - t.height
+        pull_is = omega (arith, pull ∙ first_pull_lem g t)
 
-        pub pull-found : j < t.height + t.ext_height → Bus 4 (j - t.height) ≡ bus g t
-        pull-found low =
-            rw (push_is, le-ltb r t.height past, pull-is, lt-ltb (j - t.height) t.ext_height (omega (arith, pull ∙ first_pull_lem g t)))
+        pub pull_found : j < t.height + t.ext_height → Bus 4 (j - t.height) ≡ bus g t
+        pull_found low =
+            rw (push_is, le-ltb r t.height past, pull_is, lt-ltb (j - t.height) t.ext_height (omega (arith, pull ∙ first_pull_lem g t)))
 
         pub none_found : t.height + t.ext_height ≤ j → Accepted ≡ bus g t
-        none_found end = rw (push_is, le-ltb r t.height past, pull-is, le-ltb (j - t.height) t.ext_height (omega arith))
+        none_found end = rw (push_is, le-ltb r t.height past, pull_is, le-ltb (j - t.height) t.ext_height (omega arith))

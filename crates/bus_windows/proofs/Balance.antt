@@ -97,11 +97,11 @@ module _ (g : Given) (t : Tables) where
   totals_balance all same k =
       ap (λ b. zero? (pulls (t.ext k)) || b)
       (eq-eqb _ _ (all_equal push pull (push_times g t) (pull_times t) t.height t.ext_height most same (pull k)))
-      ∙ or-true (zero? (pulls (t.ext k)))
+      ∙ or_true (zero? (pulls (t.ext k)))
     where
-      or-true : (b : Bool) → (b || true) ≡ true
-      or-true true = refl
-      or-true false = refl
+      or_true : (b : Bool) → (b || true) ≡ true
+      or_true true = refl
+      or_true false = refl
 
       most : AtMost push pull (push_times g t) (pull_times t) t.height t.ext_height
       most ρ =

@@ -1,5 +1,7 @@
 // The bus where pushes and pulls stand in different orders, or don't match: counted in windows, up to the first sender
 // that is unequal.
+#![tactic(auto)]
+
 mod count;
 mod fill;
 mod sender;

@@ -1,8 +1,10 @@
 // The 64-bit generator of document 01, and a draw of 32 bits.
+#![tactic(auto)]
+
 ghost use Rattle.std.specs.Prelude.{◌≡◌, ◌+◌, ◌*◌, ◌/◌, ◌%◌, ◌^◌, ◌<◌};
 ghost use Rattle.draw.specs.Draw.{draw_of};
 
-#[derive(Drop)]
+#[derive(Clone, Copy)]
 pub struct Generator {
     pub state: u64,
 }

@@ -40,15 +40,15 @@ module _ (old program : List ℕ) where
     program_length = lengths.output
 
     module _ (word : ℕ) (first : word ≡ first_word old) where
-      pub word-above : word < length old / 4 → Kept (Word 1 word) program
+      pub word_above : word < length old / 4 → Kept (Word 1 word) program
       unfolding translate_answer
-      word-above h = kept (rw (fit, ← first, lt-ltb word (length old / 4) h)) refl
+      word_above h = kept (rw (fit, ← first, lt-ltb word (length old / 4) h)) refl
 
       module _ (below : length old / 4 ≤ word) (at : ℕ) (found : at ≡ first_untranslatable old) where
         pub untranslatable : at < old_count old → Kept (Edition at) program
         unfolding translate_answer
         untranslatable h = kept (rw (fit, ← first, le-ltb word (length old / 4) below, ← found, lt-ltb at (old_count old) h)) refl
 
-        pub all-translated : old_count old ≤ at → {after : List ℕ} → after ≡ translated_program old → Kept Accepted after
+        pub all_translated : old_count old ≤ at → {after : List ℕ} → after ≡ translated_program old → Kept Accepted after
         unfolding translate_answer
-        all-translated h = kept (rw (fit, ← first, le-ltb word (length old / 4) below, ← found, le-ltb at (old_count old) h))
+        all_translated h = kept (rw (fit, ← first, le-ltb word (length old / 4) below, ← found, le-ltb at (old_count old) h))

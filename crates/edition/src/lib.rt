@@ -1,4 +1,6 @@
 // M-102, document 02: a program of draft 0.5.0 translated into the form of draft 0.6.0.
+#![tactic(auto)]
+
 mod encoded;
 mod walk;
 

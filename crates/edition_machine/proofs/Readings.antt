@@ -58,18 +58,18 @@ module _ (e : Encoded) where
 
     module _ (not-mul : e.mul ≡ 0) where
       -- "DEREF holds β in operand C and γ in operand B"; "a DEREF with AUX_1 0 meant fp"
-      pub deref-cell : e.deref ≡ 1 → e.aux1 ≡ 1 → e.fb ≡ 0 → meant e ≡ deref e.a e.c (stored e.b)
-      deref-cell is aux flag = rw (not-add, not-mul, is, aux, flag)
+      pub deref_cell : e.deref ≡ 1 → e.aux1 ≡ 1 → e.fb ≡ 0 → meant e ≡ deref e.a e.c (stored e.b)
+      deref_cell is aux flag = rw (not-add, not-mul, is, aux, flag)
 
-      pub deref-constant : e.deref ≡ 1 → e.aux1 ≡ 1 → e.fb ≡ 1 → meant e ≡ deref e.a e.c (constant e.b)
-      deref-constant is aux flag = rw (not-add, not-mul, is, aux, flag)
+      pub deref_constant : e.deref ≡ 1 → e.aux1 ≡ 1 → e.fb ≡ 1 → meant e ≡ deref e.a e.c (constant e.b)
+      deref_constant is aux flag = rw (not-add, not-mul, is, aux, flag)
 
-      pub deref-pointer : e.deref ≡ 1 → e.aux1 ≡ 0 → meant e ≡ deref e.a e.c pointer
-      deref-pointer is aux = rw (not-add, not-mul, is, aux)
+      pub deref_pointer : e.deref ≡ 1 → e.aux1 ≡ 0 → meant e ≡ deref e.a e.c pointer
+      deref_pointer is aux = rw (not-add, not-mul, is, aux)
 
       -- "JUMP takes dest from B and frame from C": the second operand and the third
-      pub jump-operands : e.deref ≡ 0 → meant e ≡ jump a b c
-      jump-operands not-deref = rw (not-add, not-mul, not-deref)
+      pub jump_operands : e.deref ≡ 0 → meant e ≡ jump a b c
+      jump_operands not-deref = rw (not-add, not-mul, not-deref)
 
 module _ (m : OldMachine) (s : State) (condition dest next : Source) where
   -- "reading all operands of an untaken JUMP", in STUCK's order, whatever the condition is
@@ -81,15 +81,15 @@ module _ (m : OldMachine) (s : State) (condition dest next : Source) where
     dest_read not = rw (read_a, not)
 
     module _ (read-b : old_legal m s dest ≡ true) where
-      pub next-read : old_legal m s next ≡ false → old_performs m s (jump condition dest next) ≡ stuck 4
-      next-read not = rw (read_a, read-b, not)
+      pub next_read : old_legal m s next ≡ false → old_performs m s (jump condition dest next) ≡ stuck 4
+      next_read not = rw (read_a, read-b, not)
 
       -- the second operand is next(pc) and the third next(fp)
-      pub jump-taken : old_legal m s next ≡ true → old_value m s condition ≡ 1
+      pub jump_taken : old_legal m s next ≡ true → old_value m s condition ≡ 1
           → old_performs m s (jump condition dest next) ≡ goes (record { pc = old_value m s dest; fp = old_value m s next })
-      jump-taken read-c one = rw (read_a, read-b, read-c, one)
+      jump_taken read-c one = rw (read_a, read-b, read-c, one)
 
       -- "on an untaken jump fp stays"
-      pub jump-untaken : old_legal m s next ≡ true → old_value m s condition ≡ 0
+      pub jump_untaken : old_legal m s next ≡ true → old_value m s condition ≡ 0
           → old_performs m s (jump condition dest next) ≡ goes (record { pc = s.pc + 1; fp = s.fp })
-      jump-untaken read-c zero = rw (read_a, read-b, read-c, zero)
+      jump_untaken read-c zero = rw (read_a, read-b, read-c, zero)

@@ -1,8 +1,9 @@
 // The machine of draft 0.5.0 as definitions, and document 02's reading of the draft as theorems about them: specs/ and
 // proofs/, no function.
+#![tactic(auto)]
 
 // An instruction's 14 words, in the order of draft 0.5.0, 3.1.3.
-#[derive(Drop)]
+#[derive(Clone, Copy)]
 pub struct Encoded {
     pub a: u32,
     pub b: u32,

@@ -156,7 +156,7 @@ module _ (old : List ℕ) (room : ℕ) (t : Translates old room) where
         length_is = long old room t;
         fits = fits_program old room t;
         words = program_words old room t;
-        well_formed_lem =
+        well_formed =
             λ i h. rw (read_back old room t i h)
             (from_true _ (alike (machine_of (translated_program old) []) 0 (λ _. meant (old_instruction old i)) (record { pc = 0; fp = 0 }) (lit< tt) (old_instruction old i) (known_at old room t i h)).well);
       }
@@ -176,6 +176,6 @@ module _ (old program : List ℕ) where
     pub same : (memory : List ℕ) → SameRuns old (program_left old program) memory
     same memory = rw left (same_runs old (length program) (translates old (length program) told) memory)
 
-    -- every translated instruction is well_formed_lem, and the program is one that judge and tabler take
+    -- every translated instruction is well-formed, and the program is one that judge and tabler take
     pub usable : Usable old (program_left old program)
     usable = rw left (usable_program old (length program) (translates old (length program) told))

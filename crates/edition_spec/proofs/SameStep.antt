@@ -1,4 +1,4 @@
--- A translated instruction is well_formed_lem, and does what the old one did: the same step, or stuck by the same rule.
+-- A translated instruction is well-formed, and does what the old one did: the same step, or stuck by the same rule.
 -- Assumes nothing.
 use mathlib.Core.Path.{◌≡◌, refl, sym, ap, ◌∙◌}
 use mathlib.Core.Bool.{true, and-true, or-true}
@@ -37,7 +37,7 @@ module _ (m : Machine) (count : ℕ) (instruction : ℕ → Isa) (s : State) (wo
   abbrev before : OldMachine
   before = old_over m count instruction
 
-  -- an old instruction and a new one do the same, and the new one is well_formed_lem
+  -- an old instruction and a new one do the same, and the new one is well-formed
   pub record Alike (was : Isa) (is : Instruction) : Type 0 where
     pub acts : old_performs before s was ≡ performs m s (form_in (decode_of is))
     pub well : well_formed is ≡ true
@@ -72,12 +72,12 @@ module _ (m : Machine) (count : ℕ) (instruction : ℕ → Isa) (s : State) (wo
       abbrev new : Instruction
       new = three_form e c 0 fpc
 
-      same-three : (isa : Source → Source → Source → Isa) (kind : Kind) (then : ℕ → ℕ → ℕ → Outcome)
+      same_three : (isa : Source → Source → Source → Isa) (kind : Kind) (then : ℕ → ℕ → ℕ → Outcome)
           → ((x y z : Source) → old_performs before s (isa x y z) ≡ three_read before s x y z (then (old_value before s x) (old_value before s y) (old_value before s z)))
           → ((f : Form) → (target_legal m s f kind ≡ true) × ((x y z : ℕ) → performed m s f kind x y z ≡ then x y z))
           → Words new kind
           → Alike (with_three isa e) new
-      same-three isa kind then asks performs-so words =
+      same_three isa kind then asks performs-so words =
           record {
             acts =
                 asks _ _ _
@@ -115,7 +115,7 @@ module _ (m : Machine) (count : ℕ) (instruction : ℕ → Isa) (s : State) (wo
         → e.deref ≡ 0
         → Alike (meant e) (three_form e c 0 fpc)
     same_kind c fpc c-value c-legal fits not-deref =
-        let three = same-three e c fpc c-value c-legal fits in
+        let three = same_three e c fpc c-value c-legal fits in
         by_bit e.add k.small.1.1.1.0
         (λ not-add. by_bit e.mul k.small.1.1.1.1.0
         (λ not-mul. meant_as (rw (not-add, not-mul, not-deref)) (three jump Jump (λ x y z. jumps x y z s) lands (λ f. (refl, λ x y z. refl))

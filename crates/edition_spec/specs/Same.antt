@@ -26,4 +26,4 @@ pub record Usable (old new : List ℕ) : Type 0 where
   pub length_is : length new ≡ 48 * old_count old
   pub fits : T (program_fits (length new))
   pub words : Words new
-  pub well_formed_lem : (i : ℕ) → i < old_count old → T (well_formed (instruction_at new (48 * i)))
+  pub well_formed : (i : ℕ) → i < old_count old → T (well_formed (instruction_at new (48 * i)))

@@ -1,4 +1,4 @@
-// The product of two elements: five sums, over the words of a by those of b, typeof.b.X, b·X^2, b·X^3 and b·X^4.
+// The product of two elements: five sums, over the words of a by those of b, b·X, b·X^2, b·X^3 and b·X^4.
 ghost use Rattle.std.specs.Prelude.{◌≡◌, ℕ, ◌+◌, ◌%◌, ◌≤◌};
 ghost use Rattle.word.specs.Word.{p, IsWord, ◌+ₚ◌, ◌*ₚ◌};
 ghost use Rattle.word.specs.Element.{IsElement, ◌+ₑ◌, ◌·ₑ◌, ◌*ₑ◌};

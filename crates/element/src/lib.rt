@@ -1,4 +1,6 @@
 // Extension elements: five words by value, lowest power first.
+#![tactic(auto)]
+
 mod fold;
 
 ghost use Rattle.std.specs.Prelude.{◌≡◌};

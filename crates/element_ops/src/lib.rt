@@ -1,5 +1,7 @@
 // What an extension instruction does with elements: the term of two, how it is joined to what comes after it, and what
 // stands after the last.
+#![tactic(auto)]
+
 ghost use Rattle.std.specs.Prelude.{◌≡◌};
 ghost use Rattle.machine.specs.Extension.{term_of, joined, nothing};
 

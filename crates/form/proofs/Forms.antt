@@ -116,7 +116,7 @@ module _ (i : Instruction) where
       by_test (Says i) (opcode i 0 0 0) (λ o. extended fit o (read_data i.«data») refl) (λ _. tt))))))
       (λ _. tt)
 
-  -- an instruction is malformed exactly where it isn't well_formed_lem
+  -- an instruction is malformed exactly where it isn't well-formed
   pub malformed : decode_of i ≡ Malformed → well_formed i ≡ false
   malformed e = ap is_well e
 
@@ -148,7 +148,7 @@ module _ (i : Instruction) where
       kind_of Malformed = k
       kind_of (Well f) = f.kind
 
-  -- a well_formed_lem instruction has a form
+  -- a well-formed instruction has a form
   pub well : well_formed i ≡ true → (f : Form) × (decode_of i ≡ Well f)
   well = some (decode_of i)
     where
@@ -156,7 +156,7 @@ module _ (i : Instruction) where
       some Malformed fits = absurd (false≢true fits)
       some (Well f) fits = (f, refl)
 
-  -- the tests by which an instruction is known to be well_formed_lem
+  -- the tests by which an instruction is known to be well-formed
   pub form_tests : flags_fit i && (is_add i || is_mul i || is_deref i || is_jump i || (opcode i 0 0 0 && is_call (read_data i.«data»))) ≡ well_formed i
   unfolding decode_of
   form_tests = same (flags_fit i) (is_add i) (is_mul i) (is_deref i) (is_jump i) (opcode i 0 0 0) (read_data i.«data»)

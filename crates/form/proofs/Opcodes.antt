@@ -1,4 +1,4 @@
--- The opcode words and DATA alone give a well_formed_lem instruction its form.
+-- The opcode words and DATA alone give a well-formed instruction its form.
 -- Assumes nothing.
 use mathlib.Core.Path.{◌≡◌, refl, sym, ap, ◌∙◌}
 use mathlib.Core.Bool.{Bool, true, false}

@@ -1,4 +1,4 @@
--- Document 01, "Well-formed instructions", and what a well_formed_lem one is: one of five kinds, with three operands.
+-- Document 01, "Well-formed instructions", and what a well-formed one is: one of five kinds, with three operands.
 -- Declared in src/: Instruction, Mode, Operand, Kind, Decoded (here).
 use Rattle.std.specs.Prelude.{ℕ, Bool, true, false, cond, ◌&&◌, ◌||◌, leb, eqb}
 use Rattle.form.specs.Data.{Call, None, Of, read_data}
@@ -77,6 +77,6 @@ abbrev pub is_well : Decoded → Bool
 is_well Malformed = false
 is_well (Well f) = true
 
--- an instruction is well_formed_lem where it has a form
+-- an instruction is well-formed where it has a form
 abbrev pub well_formed : Instruction → Bool
 well_formed i = is_well (decode_of i)

@@ -1,4 +1,4 @@
--- Inner: the kind of an instruction that is known to be well_formed_lem, by its opcode words and DATA alone.
+-- Inner: the kind of an instruction that is known to be well-formed, by its opcode words and DATA alone.
 -- Declared in src/: Instruction, Op, Kind (here).
 use Rattle.std.specs.Prelude.{ℕ, ◌/◌, ◌%◌, Bool, true, false, cond, ltb, eqb}
 use Rattle.form.specs.Data.{Call, None, Of}

@@ -1,4 +1,4 @@
-// The form of an instruction that is known to be well_formed_lem: no test is made again.
+// The form of an instruction that is known to be well-formed: no test is made again.
 ghost use Rattle.std.specs.Prelude.{◌≡◌, true};
 ghost use Rattle.form.specs.Form.{operand_of, well_formed, decode_of};
 ghost use Rattle.form.specs.Opcodes.{kind_by};

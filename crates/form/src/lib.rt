@@ -1,4 +1,6 @@
 // An instruction's 12 words, and its form: one of five kinds with three operands, or malformed.
+#![tactic(auto)]
+
 mod data;
 mod kinds;
 mod known;
@@ -10,7 +12,7 @@ pub use known::decode_known;
 pub use words::instruction_inside;
 
 // The 12 words, as document 01 orders them.
-#[derive(Drop)]
+#[derive(Clone, Copy)]
 pub struct Instruction {
     pub a: u32,
     pub b: u32,
@@ -27,7 +29,7 @@ pub struct Instruction {
 }
 
 // What an extension instruction does with its elements.
-#[derive(Drop)]
+#[derive(Clone, Copy)]
 pub enum Op {
     Add,
     Mul,
@@ -35,20 +37,20 @@ pub enum Op {
 }
 
 // An operand is an immediate, the cell at fp + offset, or fp + offset itself.
-#[derive(Drop)]
+#[derive(Clone, Copy)]
 pub enum Mode {
     Immediate,
     Cell,
     Frame,
 }
 
-#[derive(Drop)]
+#[derive(Clone, Copy)]
 pub struct Operand {
     pub mode: Mode,
     pub word: u32,
 }
 
-#[derive(Drop)]
+#[derive(Clone, Copy)]
 pub enum Kind {
     Add,
     Mul,
@@ -57,7 +59,7 @@ pub enum Kind {
     Extension { op: Op, be: bool, n: u32 },
 }
 
-#[derive(Drop)]
+#[derive(Clone, Copy)]
 pub struct Form {
     pub kind: Kind,
     pub a: Operand,

@@ -1,4 +1,6 @@
 // An instruction written as its 48 bytes.
+#![tactic(auto)]
+
 ghost use Rattle.std.specs.Prelude.{◌≡◌};
 ghost use Rattle.form.specs.Instruction.{instruction_words};
 ghost use Rattle.rows.specs.Rows.{put_row};

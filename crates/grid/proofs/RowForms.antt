@@ -1,4 +1,4 @@
--- The form of a row that is listed: its instruction is there and is well_formed_lem, and it has a counter; and what
+-- The form of a row that is listed: its instruction is there and is well-formed, and it has a counter; and what
 -- rows of one pc count.
 -- Assumes nothing.
 use mathlib.Core.Path.{◌≡◌, refl, sym, ap, ◌∙◌}

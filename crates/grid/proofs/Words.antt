@@ -1,4 +1,4 @@
--- The counter of a well_formed_lem instruction by its words alone.
+-- The counter of a well-formed instruction by its words alone.
 -- Assumes nothing.
 use mathlib.Core.Path.{◌≡◌, refl, sym, ap, ◌∙◌}
 use mathlib.Core.Bool.{true, cond}

@@ -10,7 +10,7 @@ ghost use Rattle.grid_spec.specs.Grid.{sum_of, limit, with_rows};
 use form::{Instruction, instruction_inside};
 use word::word_inside;
 
-// Kinds and modes by the words of a well_formed_lem instruction, with no branch: kinds come in no order that a processor
+// Kinds and modes by the words of a well-formed instruction, with no branch: kinds come in no order that a processor
 // could foresee.
 fn kind_number(mul: u32, jump: u32, aux: u32) -> usize
     requires aux_bound { aux ≤ 2 }

@@ -1,4 +1,6 @@
 // Form counts over a campaign, document 02, M-100: the grid by value, and what a table adds to it.
+#![tactic(auto)]
+
 mod counting;
 
 ghost use Rattle.std.specs.Prelude.{◌≡◌, ◌+◌, leb};

@@ -1,4 +1,6 @@
 // A grid in 1,080 bytes, as C calls and files hold it.
+#![tactic(auto)]
+
 ghost use Rattle.std.specs.Prelude.{◌≡◌, length};
 ghost use Rattle.grid_bytes.specs.GridBytes.{grid_of, grid_bytes};
 

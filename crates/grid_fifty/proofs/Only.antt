@@ -1,4 +1,4 @@
--- Only possible forms are counted: a well_formed_lem instruction's form is possible, and so is the form of every row of an
+-- Only possible forms are counted: a well-formed instruction's form is possible, and so is the form of every row of an
 -- accepted table.
 -- Assumes nothing.
 use mathlib.Core.Path.{◌≡◌, refl, sym, ap, ◌∙◌}
@@ -78,7 +78,7 @@ module _ (i : Instruction) where
       let fb : i.fb ≡ 0 = omega (arith, flags.b) in
       rw (framed, fa, fb))
 
-  -- so the form of an instruction is, and the counter of a well_formed_lem one
+  -- so the form of an instruction is, and the counter of a well-formed one
   form_possible : (f : Form) → decode_of i ≡ Well f → possible f.kind f.a.mode f.b.mode f.c.mode ≡ true
   form_possible f e =
       let formed = formed_of i f e in

@@ -1,4 +1,6 @@
 // A grid's printed report: document 02, M-100.
+#![tactic(auto)]
+
 mod names;
 
 ghost use Rattle.std.specs.Prelude.{◌++◌, ◌≡◌, ◌+◌, ◌≤◌, ◌<◌, length, drop};

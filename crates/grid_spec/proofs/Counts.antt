@@ -84,7 +84,7 @@ module _ (g : Given) (t : Tables) where
     unfolding with_rows
     counted_sum e few = sum_listed 135 t.height grid e few
 
--- in an accepted table every row's instruction is well_formed_lem, so every row has a counter
+-- in an accepted table every row's instruction is well-formed, so every row has a counter
 module _ (q : Parts) (e : judge_of q ≡ Accepted) (r : ℕ) (h : r < (tables_of q).height) where
   pub accepted_few : counter_at (given_of q) (tables_of q) r < 135
   unfolding counter_at

@@ -1,4 +1,6 @@
 // What the judge and the tabler test alike: the lengths of the four parts, their words, the program's instructions.
+#![tactic(auto)]
+
 mod size;
 mod walk;
 

@@ -1,4 +1,4 @@
--- What the stages before the bus leave, where none refused: words below p, well_formed_lem instructions, flags that are 0
+-- What the stages before the bus leave, where none refused: words below p, well-formed instructions, flags that are 0
 -- or 1.
 -- Assumes nothing.
 use mathlib.Core.Path.{◌≡◌, subst}
@@ -30,7 +30,7 @@ use Rattle.judge_walks.proofs.Rows.{none_fails, pc_inside}
 pub all_words : (bytes : List ℕ) (m : ℕ) → m ≡ first_word bytes → length bytes / 4 ≤ m → Words bytes
 all_words bytes m e past k h = ltb-true (word_of bytes k) p (first_past (is_word bytes) (length bytes / 4) (rw e at past) k h)
 
--- pc is in the program, and its instructions are well_formed_lem
+-- pc is in the program, and its instructions are well-formed
 pub rows_listed : (program memory exec : List ℕ) {at rule : ℕ} {words : Bool}
     → Tested (exec_failing (given program memory) (tables exec [])) (length exec / 32) exec at rule words
     → length exec / 32 ≤ at → WellFormed program → Listed program exec

@@ -1,4 +1,6 @@
 // The judge: a program, a memory, a start and two tables, to an answer. It writes nothing.
+#![tactic(auto)]
+
 mod bus;
 mod stage;
 

@@ -12,10 +12,10 @@ use Rattle.bus_tuples.specs.Selected.{selected_of}
 
 -- rules 2 to 4
 abbrev pub lookups_then : List ℕ → Exec → ℕ → ℕ
-lookups_then memory x after =
+lookups_then memory x rest =
     cond (cell_is memory x.addrA x.valueA)
     (cond (cell_is memory x.addrB x.valueB)
-    (cond (cell_is memory x.addrC x.valueC) after 4)
+    (cond (cell_is memory x.addrC x.valueC) rest 4)
     3)
     2
 
@@ -24,32 +24,32 @@ abbrev pub addressed : ℕ → ℕ → ℕ → ℕ → ℕ → ℕ
 addressed flag fpFlag addr fp operand = (1 -ₚ flag -ₚ fpFlag) *ₚ (addr -ₚ (fp +ₚ operand))
 
 abbrev pub addresses_then : Instruction → Exec → ℕ → ℕ
-addresses_then i x after =
+addresses_then i x rest =
     cond (zero? (addressed i.fa i.fpab x.addrA x.fp i.a))
     (cond (zero? (addressed i.fb i.fpab x.addrB x.fp i.b))
-    (cond (zero? (addressed i.fc i.fpc x.addrC x.fp i.c)) after 7)
+    (cond (zero? (addressed i.fc i.fpc x.addrC x.fp i.c)) rest 7)
     6)
     5
 
 -- rules 8 to 11, for the selected values a, b and c
 abbrev pub operations_then : Instruction → Exec → ℕ → ℕ → ℕ → ℕ → ℕ
-operations_then i x a b c after =
+operations_then i x a b c rest =
     cond (zero? (ADD i *ₚ (b -ₚ (a +ₚ c))))
     (cond (zero? (i.mul *ₚ (b -ₚ a *ₚ c)))
     (cond (zero? (DEREF i *ₚ (x.addrB -ₚ (x.valueA +ₚ i.b))))
-    (cond (zero? (DEREF i *ₚ (x.valueB -ₚ c))) after 11)
+    (cond (zero? (DEREF i *ₚ (x.valueB -ₚ c))) rest 11)
     10)
     9)
     8
 
 -- rules 12 to 16
 abbrev pub jumps_then : ℕ → Exec → Exec → ℕ → ℕ → ℕ → ℕ → ℕ
-jumps_then j x y a b c after =
+jumps_then j x y a b c rest =
     cond (zero? (j *ₚ (1 -ₚ a)))
     (cond (zero? (j *ₚ (y.pc -ₚ b)))
     (cond (zero? (j *ₚ (y.fp -ₚ c)))
     (cond (zero? ((1 -ₚ j) *ₚ (y.pc -ₚ (x.pc +ₚ 1))))
-    (cond (zero? ((1 -ₚ j) *ₚ (y.fp -ₚ x.fp))) after 16)
+    (cond (zero? ((1 -ₚ j) *ₚ (y.fp -ₚ x.fp))) rest 16)
     15)
     14)
     13)

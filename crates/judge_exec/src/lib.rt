@@ -1,4 +1,6 @@
 // The rules of one execution row: the first that fails, and what its lookup found.
+#![tactic(auto)]
+
 mod exec_quick;
 mod execution;
 mod finding;

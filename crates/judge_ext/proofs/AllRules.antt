@@ -12,6 +12,7 @@ use Rattle.rules.specs.Given.{zero_element?, next}
 use Rattle.rules.specs.Sizes.{given, tables}
 use Rattle.rules.specs.Extension.{ext_rules, selected, comp_tail}
 use Rattle.judge_spec.specs.Judged.{ext_failing}
+use Rattle.judge_ext.proofs.QuickExt.{no_operation}
 use Rattle.judge_ext.specs.ExtParts.{ext_lookups_then, bits_then, result_of, operates_then, accumulates_then, sames_then, steps_then, ext_fails, row_of, paired_row}
 
 -- rules 6 to 9 of two rows
@@ -35,6 +36,21 @@ module _ (ext : List ℕ) (r : ℕ) where
   -- rules 6 to 9, where nothing is done and where something may be
   pub idle : {x y : Ext} (after : ℕ) → x ≡ row → y ≡ paired → summed x y after ≡ after → after ≡ summed row paired after
   idle after ex ey s = sym s ∙ summed_rows after ex ey
+
+  -- rules 6 to 9, where the row has no operation
+  pub unoperated : (after : ℕ) {x : Ext} {ninth : Bool} {f : ℕ}
+      → x ≡ row
+      → ninth ≡ zero_element? (result_of x.start x.comp x.res)
+      → f ≡ cond ninth after 9
+      → x.add ≡ 0
+      → x.mul ≡ 0
+      → x.peq ≡ 0
+      → f ≡ summed row paired after
+  unoperated after {x} ex n l a m q =
+      l
+      ∙ ap (λ b. cond b after 9) n
+      ∙ no_operation x paired (selected x) (comp_tail paired) _ a m q
+      ∙ ap (λ z. summed z paired after) ex
 
   pub operated : (after : ℕ) {x y : Ext} {ninth : Bool} {last f : ℕ}
       → x ≡ row

@@ -127,7 +127,7 @@ fn operates(x: Ext, y: Ext, after: u32) -> u32
 }
 
 // Rules 6 to 9 of row r, which is read here, and by its caller: a row that is handed on is copied, and rows stand in
-// cache.
+// cache. One with no operation, as padding is, has only rule 9.
 pub(crate) fn accumulates(ext: &[u8], r: usize, after: u32) -> u32
     requires { r < length ext.now / 120 }
     ensures { result ≡ accumulates_then (row_of ext.now r) (paired_row ext.now r)
@@ -137,6 +137,9 @@ pub(crate) fn accumulates(ext: &[u8], r: usize, after: u32) -> u32
     let comp = x.comp;
     let res = x.res;
     let last = first_of(9, gated_elements(x.start, comp, res), after);
+    if (x.add == 0) & (x.mul == 0) & (x.peq == 0) {
+        return last;
+    }
     let y = ext_inside(ext, 120 * next_row(ext.len() / 120, r));
     operates(x, y, last)
 }

@@ -12,9 +12,9 @@ use judge_lookups::{five_held, looks_up};
 use rows::Ext;
 use word::{add, mul, sub};
 
-// Rules 18 to 21 of a memory in one buffer. vA's five cells come before its base, so that the base is compared with what
-// was read already. This is `apart_hold` with nothing public, written out so that the compiler drops the seam: a row
-// with no operation, as most are in a label's tables, is little else than its lookups.
+// Rules 18 to 21 of a memory in one buffer. vA's five cells come before its base, so that the base is compared with
+// what was read already. This is `apart_hold` with nothing public, written out so that the compiler drops the seam: a
+// row with no operation, as most are in a label's tables, is little else than its lookups.
 fn whole_hold(memory: &[u8], x: Ext) -> bool
     ensures { result ≡ true → (after : ℕ) → ext_lookups_then memory.now x after ≡ after }
 {

@@ -1,4 +1,6 @@
 // The rules of one extension row: the first that fails, and what its lookup found.
+#![tactic(auto)]
+
 mod accumulation;
 mod ext_quick;
 mod extension;

@@ -30,11 +30,11 @@ held Outside = 0
 
 module _ (memory : List ℕ) (k : ℕ) where
   -- what the test of a cell tells
-  pub cell_there : {b : Bool} → b ≡ ltb k (length memory / 4) → not b ≡ false → k < length memory / 4
-  cell_there {b} e t = ltb-true k (length memory / 4) (sym e ∙ not-false b t)
+  pub cell_there : {b : Bool} → b ≡ ltb k (length memory / 4) → b ≡ true → k < length memory / 4
+  cell_there {b} e t = ltb-true k (length memory / 4) (sym e ∙ t)
 
-  pub cell_gone : {b : Bool} → b ≡ ltb k (length memory / 4) → not b ≡ true → length memory / 4 ≤ k
-  cell_gone {b} e t = ltb-false k (length memory / 4) (sym e ∙ not-true b t)
+  pub cell_gone : {b : Bool} → b ≡ ltb k (length memory / 4) → b ≡ false → length memory / 4 ≤ k
+  cell_gone {b} e t = ltb-false k (length memory / 4) (sym e ∙ t)
 
   -- a cell's bytes tell whether it is there, and its word
   module _ {s : List ℕ} (e : s ≡ cell_bytes memory k 1) where

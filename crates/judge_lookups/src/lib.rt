@@ -1,5 +1,7 @@
 // What the rules of both tables ask alike: a cell of the memory and what was found there, a gate times what must be 0,
 // and the row paired with one.
+#![tactic(auto)]
+
 mod buffers;
 mod finding;
 mod lookup;

@@ -1,4 +1,4 @@
--- A row of an accepted table has a pc in the program, and the instruction there is well_formed_lem.
+-- A row of an accepted table has a pc in the program, and the instruction there is well-formed.
 -- Assumes nothing.
 use mathlib.Core.Path.{◌≡◌}
 use mathlib.Core.Bool.{true}

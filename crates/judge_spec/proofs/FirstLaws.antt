@@ -108,12 +108,12 @@ module _ (passes : ℕ → Bool) where
   pub first_found : (n m : ℕ) → m < n → ((k : ℕ) → k < m → passes k ≡ true) → passes m ≡ false → first passes 0 n ≡ m
   first_found n m h before bad = by_less (ltb (first passes 0 n) m) refl
     where
-      by-more : m ≤ first passes 0 n → (b : Bool) → ltb m (first passes 0 n) ≡ b → first passes 0 n ≡ m
-      by-more low true t = absurd (true≢false (sym (first_before n m (ltb-true m (first passes 0 n) t)) ∙ bad))
-      by-more low false t = omega (arith, ltb-false m (first passes 0 n) t)
+      by_more : m ≤ first passes 0 n → (b : Bool) → ltb m (first passes 0 n) ≡ b → first passes 0 n ≡ m
+      by_more low true t = absurd (true≢false (sym (first_before n m (ltb-true m (first passes 0 n) t)) ∙ bad))
+      by_more low false t = omega (arith, ltb-false m (first passes 0 n) t)
 
       by_less : (b : Bool) → ltb (first passes 0 n) m ≡ b → first passes 0 n ≡ m
       by_less true t =
           let less : first passes 0 n < m = ltb-true (first passes 0 n) m t in
           absurd (true≢false (sym (before (first passes 0 n) less) ∙ first_fails n (omega arith)))
-      by_less false t = by-more (ltb-false (first passes 0 n) m t) (ltb m (first passes 0 n)) refl
+      by_less false t = by_more (ltb-false (first passes 0 n) m t) (ltb m (first passes 0 n)) refl

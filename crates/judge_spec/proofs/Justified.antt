@@ -43,8 +43,8 @@ module _ (q : Parts) where
         ext_size = read.sizes 4;
         program_words = read.words 1;
         memory_words = read.words 2;
-        exec_words_lem = read.words 3;
-        ext_words_lem = read.words 4;
+        exec_words = read.words 3;
+        ext_words = read.words 4;
         instructions = s.three.instructions;
         start_pc = s.start_pc;
         start_fp = s.start_fp;

@@ -1,6 +1,8 @@
 // One walk over each table: the first row with a rule that fails, and what its rows tell on the way, as they are read
 // anyway: whether their words are below p, and where the pushes leave the pulls that stand in the same order. Of the
 // next execution row only pc and fp are used.
+#![tactic(auto)]
+
 ghost use Rattle.std.specs.Prelude.{◌≡◌, [], ◌++◌, ◌/◌, ◌%◌, ◌<◌, length};
 ghost use Rattle.rules.specs.Sizes.{given, tables};
 ghost use Rattle.judge_spec.specs.Judged.{exec_failing, ext_failing};

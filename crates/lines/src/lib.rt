@@ -1,5 +1,7 @@
 // Numbers behind a name, and lines of them, as the programs, a report and a listing have them: documents 01, "Draws,
 // recipe, label", and 02.
+#![tactic(auto)]
+
 mod decimal;
 
 ghost use Rattle.std.specs.Prelude.{◌≡◌, ◌+◌, ◌≤◌, length};

@@ -102,13 +102,13 @@ module _ (f : Form) (l : Listable f) where
   unfolding form_instruction
   its_words = by_kind f.kind l.a_mode l.b_mode l.c_mode l.call
     where
-      with-kind : Kind → Instruction
-      with-kind k = form_instruction (record { kind = k; a = f.a; b = f.b; c = f.c })
+      with_kind : Kind → Instruction
+      with_kind k = form_instruction (record { kind = k; a = f.a; b = f.b; c = f.c })
 
-      opcode : (k : Kind) → Opcode (with-kind k) (mul_word k) (jump_word k) (aux_word k)
+      opcode : (k : Kind) → Opcode (with_kind k) (mul_word k) (jump_word k) (aux_word k)
       opcode k = record { mul_is = refl; jump_is = refl; aux_is = refl }
 
-      plain : (k : Kind) → mode_number f.a.mode ≤ 1 → call_word k ≡ 0 → Plain (with-kind k)
+      plain : (k : Kind) → mode_number f.a.mode ≤ 1 → call_word k ≡ 0 → Plain (with_kind k)
       plain k h e = record { fpab_is = omega (arith, flagged f.a.mode); data_is = e }
 
       by_kind : (k : Kind)
@@ -116,7 +116,7 @@ module _ (f : Form) (l : Listable f) where
           → InRange (b_range (kind_number k) (mode_number f.a.mode)) f.b.mode
           → InRange (c_range (kind_number k)) f.c.mode
           → CallFits k
-          → Words (with-kind k) k
+          → Words (with_kind k) k
       by_kind Add a b c call = (opcode Add, plain Add a.1 refl)
       by_kind Mul a b c call = (opcode Mul, plain Mul a.1 refl)
       by_kind Deref a b c call = (opcode Deref, plain Deref a.1 refl, omega (arith, flagged f.a.mode), omega (arith, flagged f.b.mode))

@@ -1,4 +1,4 @@
--- The programs of forms that a line can say are the well_formed_lem ones, and their listings are the forms' lines.
+-- The programs of forms that a line can say are the well-formed ones, and their listings are the forms' lines.
 -- Assumes nothing.
 use mathlib.Core.Path.{◌≡◌, refl, sym, ap, ap₂, ◌∙◌}
 use mathlib.Core.List.{List, [], ◌∷◌, ◌++◌, append_assoc, append-nil}

@@ -1,5 +1,5 @@
 -- Inner: kinds, operations and modes by numbers, and the modes that an operand of a kind may have. That these are those
--- of well_formed_lem instructions is proved (proofs/Forms).
+-- of well-formed instructions is proved (proofs/Forms).
 -- Declared in src/: Op, Mode, Kind (form); Span (here).
 use Rattle.std.specs.Prelude.{ℕ, cond, eqb}
 use Rattle.form.specs.declared.Op.{Op}

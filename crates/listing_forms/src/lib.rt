@@ -1,4 +1,6 @@
 // What may stand where in a line, by numbers of kinds and modes; and the instruction of a form.
+#![tactic(auto)]
+
 mod instruction;
 
 ghost use Rattle.std.specs.Prelude.{◌≡◌};
@@ -8,7 +10,7 @@ use form::{Mode, Op};
 pub use instruction::form_instruction;
 
 // The modes that are allowed, from one number to another.
-#[derive(Drop)]
+#[derive(Clone, Copy)]
 pub struct Span {
     pub low: u64,
     pub high: u64,

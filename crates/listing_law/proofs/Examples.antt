@@ -69,7 +69,7 @@ abbrev pub fp_in_one : List ℕ
 fp_in_one = 111 ∷ 112 ∷ 61 ∷ 120 ∷ 97 ∷ 100 ∷ 100 ∷ 32 ∷ 97 ∷ 61 ∷ 102 ∷ 112 ∷ 58 ∷ 49 ∷ 32 ∷ 98 ∷ 61 ∷ 99 ∷ 101 ∷ 108 ∷ 108 ∷ 58 ∷ 50 ∷ 32 ∷ 99 ∷ 61 ∷ 102 ∷ 112 ∷ 58 ∷ 48 ∷ 32 ∷ 98 ∷ 101 ∷ 61 ∷ 48 ∷ 32 ∷ 110 ∷ 61 ∷ 49 ∷ 10 ∷ []
 
 -- where each leaves every valid listing
-pub marked-places :
+pub marked_places :
     Means zero_leads (LeavesAt 15)
     × Means word_p (LeavesAt 22)
     × Means n_zero (LeavesAt 39)
@@ -77,7 +77,7 @@ pub marked-places :
     × Means fp_for_destination (LeavesAt 18)
     × Means fp_in_one (LeavesAt 17)
 unfolding parse lit seq one number_from number index_in decimal_value op_tail modes from_call from_c from_b from_a line_fields listing_lines
-marked-places = (
+marked_places = (
   leaves_at zero_leads 15 (omega arith) refl,
   leaves_at word_p 22 (omega arith) refl,
   leaves_at n_zero 39 (omega arith) refl,

@@ -1,4 +1,4 @@
--- A program's tests by themselves: what passes them is a well_formed_lem program, and they come before what is behind them.
+-- A program's tests by themselves: what passes them is a well-formed program, and they come before what is behind them.
 -- Assumes nothing.
 use mathlib.Core.Path.{◌≡◌, refl, sym, ap, ◌∙◌}
 use mathlib.Core.Bool.{Bool, true, false, cond, true≢false}
@@ -24,7 +24,7 @@ module _ (program : List ℕ) where
       (words_pass 1 program (instructions (given program []) then) w.words
       ∙ untouched (instructions_read (given program []) (tables [] [])) (length program / 48) Instruction then w.formed)
 
-  -- bytes that are accepted behind the tests are a well_formed_lem program
+  -- bytes that are accepted behind the tests are a well-formed program
   pub passed : ((k : ℕ) → get_or program k 0 < 256) → (then : Answer) → program_tests program then ≡ Accepted → WellFormedProgram program × (then ≡ Accepted)
   passed bytes then =
       by_test Holds (program_fits (length program))

@@ -1,8 +1,8 @@
--- Document 02, M-105: "Every well_formed_lem program has one listing, the listing reads back as it, and no other text does.
+-- Document 02, M-105: "Every well-formed program has one listing, the listing reads back as it, and no other text does.
 -- Refusals: 16 LISTING, place = first byte that no valid listing could have there, or the text's end; 17 SHORT, place =
 -- bytes needed, output unchanged. SIZE, WORD, INSTRUCTION come before both, as they apply."
--- `listing_of` is a program's listing, byte for byte; `listed` and `listed_in` are what `listing_writer::list` promises,
--- and `Assembles` what `listing_reader::read_listing` does, over what a text means (listing_spec).
+-- `listing_of` is a program's listing, byte for byte; `listed` and `listed_in` are what `listing_writer::list`
+-- promises, and `Assembles` what `listing_reader::read_listing` does, over what a text means (listing_spec).
 -- Declared in src/: Answer (answer); Transcribed (listing_spec).
 use Rattle.std.specs.Prelude.{ℕ, ◌*◌, ◌/◌, ◌≤◌, ◌<◌, false, List, ◌++◌, ◌↔◌, ◌≡◌, length, take, drop, get_or}
 use Rattle.answer.specs.Verdicts.{accepted}
@@ -32,7 +32,7 @@ pub record Listings : Type 0 where
   -- every text means something, and one thing
   pub some_sense : (text : List ℕ) → (s : Sense) × Means text s
   pub one_sense : (text : List ℕ) (s t : Sense) → Means text s → Means text t → s ≡ t
-  -- the writer accepts the well_formed_lem programs for whose listing there is room, and no other bytes
+  -- the writer accepts the well-formed programs for whose listing there is room, and no other bytes
   pub writer_accepts : (program : List ℕ) (room : ℕ) → ((k : ℕ) → get_or program k 0 < 256)
       → (list_answer program room ≡ Accepted) ↔ (WellFormedProgram program × (length (listing_of program) ≤ room))
   -- SIZE, WORD and INSTRUCTION come first; then SHORT, with the bytes needed: no more than 77 for each instruction

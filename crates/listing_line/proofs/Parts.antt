@@ -104,18 +104,18 @@ module _ (k o : ℕ) (a b c : Operand) where
       (spelling_seq (λ n. done (form_from (call_kind o be n) a b c)) (λ n f. form_from (call_kind o be n) a b c ≡ f) (λ f. []) (λ f. n_in f.kind)
       (λ n f h e. ap (λ (x : Form). n_in x.kind) (sym e)) spelling_n (λ n h. spelling_done (form_from (call_kind o be n) a b c)))
 
-  spelling-called :
+  spelling_called :
       Spelling false
       (lit (98 ∷ 101 ∷ 61 ∷ []) (seq (one decimal_value 0 1) (λ be. lit n_key (seq (number decimal_value 1 1048576 10) (λ n. done (form_from (call_kind o be n) a b c))))))
       (CallPart true k o a b c) (call_written true)
-  spelling-called =
+  spelling_called =
       spelling_lit (98 ∷ 101 ∷ 61 ∷ [])
       (spelling_seq (λ be. lit n_key (seq (number decimal_value 1 1048576 10) (λ n. done (form_from (call_kind o be n) a b c)))) NPart n_written (λ f. be_in f.kind)
       (λ be f h e. ap (λ (x : Form). be_in x.kind) (sym e.1) ∙ be_back be h.1) spelling_be (λ be h. spelling_call_n be))
 
   pub spelling_call : Spelling false (from_call k o a b c) (CallPart (eqb k 4) k o a b c) (call_written (eqb k 4))
   unfolding from_call
-  spelling_call = cases (eqb k 4) (λ e. rw e spelling-called) (λ e. rw e (spelling_done (form_from (plain_kind k) a b c)))
+  spelling_call = cases (eqb k 4) (λ e. rw e spelling_called) (λ e. rw e (spelling_done (form_from (plain_kind k) a b c)))
 
   -- the operands and the kind of what is read
   pub of_operands : (t : Bool) (f : Form) → CallPart t k o a b c f → (a ≡ f.a) × (b ≡ f.b) × (c ≡ f.c)

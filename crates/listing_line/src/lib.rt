@@ -1,4 +1,6 @@
 // One line of a listing, read field by field up to the first byte that no valid line has there.
+#![tactic(auto)]
+
 mod names;
 
 ghost use Rattle.std.specs.Prelude.{true, ◌≡◌, ◌≤◌, ◌<◌, length, drop};

@@ -45,8 +45,8 @@ module _ (text : List ℕ) (gs : List Form) (is : ending text ≡ whole gs) wher
       on : r.stopped ≡ false
       on = cases r.stopped (λ e. absurd (not_both gs (drop r.at text) (sym is ∙ stops text at fs s few bytes_left r l e))) (λ e. e)
 
-      pub next-line : Behind text r.at (fs ++ (r.form ∷ []))
-      next-line = goes text at fs s few bytes_left r l on
+      pub next_line : Behind text r.at (fs ++ (r.form ∷ []))
+      next_line = goes text at fs s few bytes_left r l on
 
       pub its_form : Listable r.form
       its_form =

@@ -1,4 +1,6 @@
 // The listing reader: one walk that tells whether a text is a listing, one that writes the program. Document 02, M-105.
+#![tactic(auto)]
+
 mod fill;
 mod walk;
 

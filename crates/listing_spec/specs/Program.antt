@@ -14,7 +14,7 @@ abbrev pub program_tests : List ℕ → Answer → Answer
 program_tests program then =
     cond (program_fits (length program)) (words 1 program (instructions (given program []) then)) (Size 1 0)
 
--- a well_formed_lem program: bytes, 1 to 2^20 instructions of 48, all words below p, every instruction well_formed_lem. That it
+-- a well-formed program: bytes, 1 to 2^20 instructions of 48, all words below p, every instruction well-formed. That it
 -- is what passes the tests is proved (listing_law, specs/Listings).
 pub record WellFormedProgram (program : List ℕ) : Type 0 where
   pub bytes : (k : ℕ) → get_or program k 0 < 256

@@ -10,7 +10,7 @@ use Rattle.listing_spec.specs.Program.{WellFormedProgram}
 use Rattle.listing_spec.specs.Writing.{within, transcribed, transcribed_in}
 use Rattle.listing_spec.specs.declared.Transcribed.{Transcribed}
 
--- a text is valid if it is the listing of a well_formed_lem program
+-- a text is valid if it is the listing of a well-formed program
 abbrev pub ValidListing : List ℕ → Type 0
 ValidListing text = (program : List ℕ) × WellFormedProgram program × (listing_of program ≡ text)
 

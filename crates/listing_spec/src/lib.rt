@@ -1,4 +1,6 @@
 // What a listing is, and what its writer and reader owe: definitions in specs/. Document 02, M-105.
+#![tactic(auto)]
+
 ghost use Rattle.std.specs.Prelude.{◌≡◌};
 
 use answer::Answer;

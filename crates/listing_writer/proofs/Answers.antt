@@ -43,9 +43,9 @@ module _ (program text : List ℕ) where
     few = leb-true _ (2 ^ 20) (each (eqb (length program % 48) 0) (leb 1 (length program / 48) ∷ leb (length program / 48) (2 ^ 20) ∷ []) fit).1.1
 
     module _ (word : ℕ) (first : word ≡ first_word program) where
-      pub word-above : word < length program / 4 → Kept (nothing (Word 1 word)) text
+      pub word_above : word < length program / 4 → Kept (nothing (Word 1 word)) text
       unfolding list_answer
-      word-above h = kept {a = Word 1 word} (rw (fit, ← first, lt-ltb word (length program / 4) h)) refl
+      word_above h = kept {a = Word 1 word} (rw (fit, ← first, lt-ltb word (length program / 4) h)) refl
 
       module _ (below : length program / 4 ≤ word) (at : ℕ) (found : at ≡ first_malformed (given program [])) where
         pub malformed : at < length program / 48 → Kept (nothing (Instruction at)) text

@@ -1,4 +1,6 @@
 // The writer of listings: document 02, M-105.
+#![tactic(auto)]
+
 mod length;
 mod line;
 mod walk;

@@ -1,4 +1,6 @@
 // Numbers of 64 bits in eight bytes, as C calls take and give them.
+#![tactic(auto)]
+
 ghost use Rattle.std.specs.Prelude.{◌≡◌, ◌++◌, ◌+◌, ◌≤◌, length, take, drop};
 ghost use Rattle.long.specs.Long.{long_at, long_bytes};
 

@@ -46,9 +46,9 @@ nothing Mul = element 0
 nothing Peq = element 1
 
 -- the sum or product over n elements from number i on
-abbrev pub result : (ℕ → ℕ) → Op → Bool → ℕ → ℕ → ℕ → ℕ → List ℕ
-result cell op be a b i zero = nothing op
-result cell op be a b i (suc n) = joined op (term_of op (left_at cell be a i) (right_at cell b i)) (result cell op be a b (suc i) n)
+abbrev pub extension_result : (ℕ → ℕ) → Op → Bool → ℕ → ℕ → ℕ → ℕ → List ℕ
+extension_result cell op be a b i zero = nothing op
+extension_result cell op be a b i (suc n) = joined op (term_of op (left_at cell be a i) (right_at cell b i)) (extension_result cell op be a b (suc i) n)
 
 abbrev pub same_element : List ℕ → List ℕ → Bool
 same_element x y =

@@ -8,7 +8,7 @@ use Rattle.form.specs.declared.Form.{Form}
 use Rattle.form.specs.declared.Kind.{Kind}
 use Rattle.form.specs.declared.Kind.TheVariants.{Add, Mul, Deref, Jump, Extension}
 use Rattle.machine.specs.Machine.{Machine, State, value, legal}
-use Rattle.machine.specs.Extension.{element_at, cells_exist, result, same_element}
+use Rattle.machine.specs.Extension.{element_at, cells_exist, extension_result, same_element}
 
 abbrev pub forward : State → Outcome
 forward s = goes (record { pc = s.pc + 1; fp = s.fp })
@@ -42,7 +42,7 @@ performed m s f Deref a b c = asked 5 (eqb (m.cell (target m s f)) c) (forward s
 performed m s f Jump a b c = jumps a b c s
 performed m s f (Extension op be n) a b c =
     asked 7 (cells_exist m.size be n a b c)
-    (asked 8 (same_element (element_at m.cell c) (result m.cell op be a b 0 n)) (forward s))
+    (asked 8 (same_element (element_at m.cell c) (extension_result m.cell op be a b 0 n)) (forward s))
 
 -- all operands are read before anything is asked of them, on an untaken jump too
 abbrev pub performs : Machine → State → Form → Outcome

@@ -1,1 +1,2 @@
 // The machine without flags: definitions alone, in specs/.
+#![tactic(auto)]

@@ -8,7 +8,7 @@ use lib.Dec.{lit≤}
 use lib.ListN.{get_or, get_or-eq_default}
 use Rattle.word.specs.Element.{◌⟨◌⟩, IsElement}
 use Rattle.word.proofs.Lists.{◌∷≡◌}
-use Rattle.machine.specs.Extension.{result}
+use Rattle.machine.specs.Extension.{extension_result}
 use Rattle.maker_spec.specs.Made.{flat, op_picked, be_picked, count_picked, left_picked, right_picked, kind_picked, slot_cells}
 use Rattle.maker_law.proofs.Making.{picked_extension, result_element}
 use Rattle.maker.specs.Inner.{eight}
@@ -18,10 +18,10 @@ past : (e : List ℕ) → IsElement e → (j : ℕ) → 5 ≤ j → e ⟨ j ⟩ 
 past e is j h = get_or-eq_default e 0 {n = j} (omega (arith, is.five_long))
 
 pub slot_extension : (cell : ℕ → ℕ) (kind a c : ℕ) → 4 ≤ kind
-    → (let e = result cell (op_picked c) (be_picked c) (left_picked a) (right_picked a) 0 (count_picked c) in
+    → (let e = extension_result cell (op_picked c) (be_picked c) (left_picked a) (right_picked a) 0 (count_picked c) in
     e ⟨ 0 ⟩ ∷ e ⟨ 1 ⟩ ∷ e ⟨ 2 ⟩ ∷ e ⟨ 3 ⟩ ∷ e ⟨ 4 ⟩ ∷ 0 ∷ 0 ∷ 0 ∷ [] ≡ eight (slot_cells flat cell (kind_picked kind c) a c))
 slot_extension cell kind a c h =
-    let e = result cell (op_picked c) (be_picked c) (left_picked a) (right_picked a) 0 (count_picked c) in
+    let e = extension_result cell (op_picked c) (be_picked c) (left_picked a) (right_picked a) 0 (count_picked c) in
     let is = result_element cell (op_picked c) (be_picked c) (left_picked a) (right_picked a) 0 (count_picked c) in
     rw (picked_extension kind c h)
     (refl ∷≡ refl ∷≡ refl ∷≡ refl ∷≡ refl ∷≡ sym (past e is 5 (lit≤ tt)) ∷≡ sym (past e is 6 (lit≤ tt)) ∷≡ sym (past e is 7 (lit≤ tt)) ∷≡ refl)

@@ -1,6 +1,6 @@
 // The result of an extension instruction over the drawn cells.
 ghost use Rattle.std.specs.Prelude.{◌≡◌, ◌+◌, ◌≤◌, ◌<◌};
-ghost use Rattle.machine.specs.Extension.{element_at, left_at, right_at, term_of, joined, result};
+ghost use Rattle.machine.specs.Extension.{element_at, left_at, right_at, term_of, joined, extension_result};
 ghost use Rattle.maker_spec.specs.Made.{op_picked, be_picked, count_picked, left_picked, right_picked};
 ghost use Rattle.maker.specs.Inner.{cell_in};
 
@@ -9,7 +9,7 @@ use form::Op;
 
 // floor(c/2) mod 3 picks add, mul, peq.
 pub(crate) fn op_of(c: u32) -> Op
-    ensures* { λ r. ⌜ r ≡ op_picked c ⌝ }
+    ensures { result ≡ op_picked c }
 {
     match c / 2 % 3 {
         0 => Op::Add,
@@ -20,7 +20,7 @@ pub(crate) fn op_of(c: u32) -> Op
 
 fn element_at(cells: &[u32; 32], k: usize) -> [u32; 5]
     requires { k + 4 < 32 }
-    ensures* { λ r. ⌜ r ≡ element_at (cell_in cells.now) k ⌝ }
+    ensures { result ≡ element_at (cell_in cells.now) k }
 {
     [
         cells[k],
@@ -34,7 +34,7 @@ fn element_at(cells: &[u32; 32], k: usize) -> [u32; 5]
 // a_i: five cells, or with be the one cell.
 fn left_at(cells: &[u32; 32], be: bool, a: usize, i: usize) -> [u32; 5]
     requires { (a ≤ 15) × (i ≤ 1) }
-    ensures* { λ r. ⌜ r ≡ left_at (cell_in cells.now) be a i ⌝ }
+    ensures { result ≡ left_at (cell_in cells.now) be a i }
 {
     if be {
         return [cells[a + i], 0, 0, 0, 0];
@@ -53,7 +53,7 @@ fn with_element(
     rest: [u32; 5],
 ) -> [u32; 5]
     requires { (a ≤ 15) × (b ≤ 19) × (i ≤ 1) }
-    ensures* { λ r. ⌜ r ≡ joined op (term_of op (left_at (cell_in cells.now) be a i) (right_at (cell_in cells.now) b i)) rest ⌝ }
+    ensures { result ≡ joined op (term_of op (left_at (cell_in cells.now) be a i) (right_at (cell_in cells.now) b i)) rest }
 {
     let x = left_at(cells, be, a, i);
     let y = element_at(cells, b + 5 * i);
@@ -62,7 +62,7 @@ fn with_element(
 
 // The one or two elements that an extension's draws name.
 pub(crate) fn result_of(cells: &[u32; 32], a: u32, c: u32) -> [u32; 5]
-    ensures* { λ r. ⌜ r ≡ result (cell_in cells.now) (op_picked c) (be_picked c) (left_picked a) (right_picked a) 0 (count_picked c) ⌝ }
+    ensures { result ≡ extension_result (cell_in cells.now) (op_picked c) (be_picked c) (left_picked a) (right_picked a) 0 (count_picked c) }
 {
     let op = op_of(c);
     let be = c / 6 % 2 == 1;

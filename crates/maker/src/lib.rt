@@ -1,4 +1,6 @@
 // A recipe, to a program and a memory: document 01, "Draws, recipe, label".
+#![tactic(auto)]
+
 mod elements;
 mod instructions;
 mod slots;

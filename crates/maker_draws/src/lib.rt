@@ -1,4 +1,6 @@
 // The maker's draws: 32 cells, then three numbers for each instruction.
+#![tactic(auto)]
+
 ghost use Rattle.std.specs.Prelude.{◌≡◌, ◌/◌, ◌^◌};
 ghost use Rattle.maker_draws.specs.Drawn.{after_cell, begun_of, three_of};
 
@@ -18,7 +20,7 @@ pub struct Begun {
 }
 
 // An instruction's kind, a and c, and the generator after them.
-#[derive(Drop)]
+#[derive(Clone, Copy)]
 pub struct Three {
     pub kind: u32,
     pub a: u32,

@@ -9,7 +9,7 @@ use Rattle.word.specs.Element.{element}
 use Rattle.word.proofs.Lists.{◌∷≡◌}
 use Rattle.form.specs.declared.Kind.{Kind}
 use Rattle.form.specs.declared.Op.{Op}
-use Rattle.machine.specs.Extension.{element_at, left_at, term_of, joined, result}
+use Rattle.machine.specs.Extension.{element_at, left_at, term_of, joined, extension_result}
 use Rattle.maker_draws.specs.Drawn.{Draws}
 use Rattle.maker_spec.specs.Made.{Profile, slot_size, slot, kind_picked, op_picked, be_picked, count_picked, left_picked, right_picked, slot_cells, slot_cell, cell_of}
 use Rattle.maker_law.proofs.Making.{by_kind}
@@ -40,7 +40,7 @@ module _ (f g : ℕ → ℕ) (same : (k : ℕ) → k < 32 → f k ≡ g k) where
   left_same true a i h = ap element (same (a + i) (omega arith))
   left_same false a i h = element_same (a + 5 * i) h
 
-  result_same : (op : Op) (be : Bool) (a b i n : ℕ) → a + 5 * (i + n) ≤ 32 → b + 5 * (i + n) ≤ 32 → result f op be a b i n ≡ result g op be a b i n
+  result_same : (op : Op) (be : Bool) (a b i n : ℕ) → a + 5 * (i + n) ≤ 32 → b + 5 * (i + n) ≤ 32 → extension_result f op be a b i n ≡ extension_result g op be a b i n
   result_same op be a b i zero ha hb = refl
   result_same op be a b i (suc n) ha hb =
       ap₂ (joined op) (ap₂ (term_of op) (left_same be a i (omega arith)) (element_same (b + 5 * i) (omega arith)))
@@ -48,7 +48,7 @@ module _ (f g : ℕ → ℕ) (same : (k : ℕ) → k < 32 → f k ≡ g k) where
 
   -- an extension's elements lie among the drawn cells
   pub picked_same : (a c : ℕ) → (let n = count_picked c in
-      result f (op_picked c) (be_picked c) (left_picked a) (right_picked a) 0 n ≡ result g (op_picked c) (be_picked c) (left_picked a) (right_picked a) 0 n)
+      extension_result f (op_picked c) (be_picked c) (left_picked a) (right_picked a) 0 n ≡ extension_result g (op_picked c) (be_picked c) (left_picked a) (right_picked a) 0 n)
   picked_same a c = result_same (op_picked c) (be_picked c) (left_picked a) (right_picked a) 0 (count_picked c) (omega arith) (omega arith)
 
   pub slot_same : (profile : Profile) (kind a c : ℕ) → a < 32 → c < 32

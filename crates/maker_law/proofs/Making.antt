@@ -14,7 +14,7 @@ use Rattle.form.specs.declared.Kind.TheVariants as kinds
 use Rattle.form.specs.declared.Op.{Op}
 use Rattle.form.specs.declared.Op.TheVariants.{Add, Mul, Peq}
 use Rattle.word.proofs.Tests.{by_test}
-use Rattle.machine.specs.Extension.{result}
+use Rattle.machine.specs.Extension.{extension_result}
 use Rattle.maker_spec.specs.Made.{kind_picked, op_picked, be_picked, count_picked}
 
 -- what holds of the five kinds holds of the one that is picked
@@ -30,7 +30,7 @@ picked_extension kind c h =
     rw (ne_eqb kind 0 (λ e. omega arith), ne_eqb kind 1 (λ e. omega arith), ne_eqb kind 2 (λ e. omega arith), ne_eqb kind 3 (λ e. omega arith))
 
 -- a sum or product of elements is an element
-pub result_element : (cell : ℕ → ℕ) (op : Op) (be : Bool) (a b i n : ℕ) → IsElement (result cell op be a b i n)
+pub result_element : (cell : ℕ → ℕ) (op : Op) (be : Bool) (a b i n : ℕ) → IsElement (extension_result cell op be a b i n)
 result_element cell Add be a b i zero = word_element 0 (lit< tt)
 result_element cell Mul be a b i zero = word_element 0 (lit< tt)
 result_element cell Peq be a b i zero = word_element 1 (lit< tt)

@@ -1,4 +1,4 @@
--- In either profile every instruction that is made is well_formed_lem, and every word below p.
+-- In either profile every instruction that is made is well-formed, and every word below p.
 -- Assumes nothing.
 use mathlib.Core.Path.{◌≡◌, refl}
 use mathlib.Core.Bool.{true}

@@ -1,1 +1,2 @@
-// That what is made is well_formed_lem and reads back, and that the seed matters. Theorems alone, in proofs/.
+// That what is made is well-formed and reads back, and that the seed matters. Theorems alone, in proofs/.
+#![tactic(auto)]

@@ -9,7 +9,7 @@ use Rattle.form.specs.Instruction.{instruction_words}
 use Rattle.form.specs.declared.Instruction.{Instruction}
 use Rattle.form.specs.declared.Kind.{Kind}
 use Rattle.form.specs.declared.Kind.TheVariants.{Add, Mul, Deref, Jump, Extension}
-use Rattle.machine.specs.Extension.{result}
+use Rattle.machine.specs.Extension.{extension_result}
 use Rattle.maker_draws.specs.Drawn.{Draws}
 use Rattle.maker_spec.specs.Made.{kind_picked, jump_to}
 use Rattle.maker_spec.specs.Bytes.{word_bytes}
@@ -33,7 +33,7 @@ plain_cells cell Add a c = (cell a +ₚ cell c) ∷ []
 plain_cells cell Mul a c = (cell a *ₚ cell c) ∷ []
 plain_cells cell Deref a c = a ∷ cell a ∷ []
 plain_cells cell Jump a c = []
-plain_cells cell (Extension op be n) a c = result cell op be (a % 16) (16 + a % 4) 0 n
+plain_cells cell (Extension op be n) a c = extension_result cell op be (a % 16) (16 + a % 4) 0 n
 
 module _ (d : Draws) (n : ℕ) where
   -- instruction n jumps to itself: condition 1, dest n

@@ -21,7 +21,7 @@ use Rattle.form.specs.declared.Kind.{Kind}
 use Rattle.form.specs.declared.Kind.TheVariants.{Add, Mul, Deref, Jump, Extension}
 use Rattle.form.proofs.DataLaws.{written}
 use Rattle.machine.specs.Machine.{Machine, State}
-use Rattle.machine.specs.Extension.{left_span, cells_exist, result}
+use Rattle.machine.specs.Extension.{left_span, cells_exist, extension_result}
 use Rattle.machine.specs.Step.{Outcome, goes, step, target_legal, jumps, performed}
 use Rattle.tables.specs.Machine.{form_in}
 use Rattle.tables.specs.Groups.{length_of}
@@ -134,7 +134,7 @@ module _ (m : Machine) (cell : ℕ → ℕ) (room : 1024 ≤ m.size) (drawn : (k
         )
 
     abbrev picked : (ℕ → ℕ) → List ℕ
-    picked cells = result cells (op_picked c) (be_picked c) (left_picked a) (right_picked a) 0 (count_picked c)
+    picked cells = extension_result cells (op_picked c) (be_picked c) (left_picked a) (right_picked a) 0 (count_picked c)
 
     -- its result over the machine's own cells is what the slot has
     equal : (j : ℕ) {x : ℕ} → x ≡ picked cell ⟨ j ⟩ → eqb x (picked m.cell ⟨ j ⟩) ≡ true

@@ -1,7 +1,7 @@
 -- Document 02, M-107: the run of what is made, from pc 0, fp 0. `Drawable` draws are any 32 words, any kinds, and any a
 -- and c below 32; the profiles are M-111's, and every recipe is flat. `Permitted`, `LegalRun`, `Spare` and
--- `JudgeAccepts` are demand 3's words (run); `answer_for`, `exec_left` and `ext_left` are what the tabler promises for two
--- buffers: its answer, and the very bytes that it leaves.
+-- `JudgeAccepts` are demand 3's words (run); `answer_for`, `exec_left` and `ext_left` are what the tabler promises for
+-- two buffers: its answer, and the very bytes that it leaves.
 -- Declared in src/: Answer (answer); Recipe (label).
 use Rattle.std.specs.Prelude.{◌≡◌, true, List, ℕ, suc, ◌+◌, ◌*◌, ◌^◌, ◌≤◌, min, T, length}
 use Rattle.answer.specs.declared.Answer.TheVariants.{Accepted}

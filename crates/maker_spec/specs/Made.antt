@@ -9,7 +9,7 @@ use Rattle.form.specs.declared.Kind.{Kind}
 use Rattle.form.specs.declared.Kind.TheVariants.{Add, Mul, Deref, Jump, Extension}
 use Rattle.form.specs.declared.Op.{Op}
 use Rattle.form.specs.declared.Op.TheVariants as op
-use Rattle.machine.specs.Extension.{result}
+use Rattle.machine.specs.Extension.{extension_result}
 use Rattle.maker_draws.specs.Drawn.{Draws}
 
 -- draws in their ranges: 32 words, a and c below 32
@@ -116,7 +116,7 @@ slot_cells profile cell Add a c = (cell a +ₚ cell c) ∷ []
 slot_cells profile cell Mul a c = (cell a *ₚ cell c) ∷ []
 slot_cells profile cell Deref a c = a ∷ cell a ∷ []
 slot_cells profile cell Jump a c = jump_cells profile a
-slot_cells profile cell (Extension op be n) a c = result cell op be (left_picked a) (right_picked a) 0 n
+slot_cells profile cell (Extension op be n) a c = extension_result cell op be (left_picked a) (right_picked a) 0 n
 
 -- the kind of instruction i
 abbrev pub kind_drawn : Draws → ℕ → Kind

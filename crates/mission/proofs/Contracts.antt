@@ -92,7 +92,7 @@ pub reader_call_promises : (κs : Lfts 3) (a : Dens κs label-call.ps) (z : (res
     → ReaderCall a.0.now a.1.0.now a.1.1.0.now (z, e.1.0.now, e.1.1.0.now)
 reader_call_promises κs a z e learnt = learnt
 
--- so what a driver reads follows from the exported function's own contract
+-- so what a driver reads follows from the function's own contract, which is its export's (uisnabar_c, proofs/Exports)
 pub exported_judge_tells : (κs : Lfts 5) (a : Dens κs judge-call.ps) (z : (res_t judge-call.r κs).Denot)
     (e : AtExit (ended_of 5 judge-call.ps judge-call.r) κs)
     → judge-call-reads.Learnt κs a z e

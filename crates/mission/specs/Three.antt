@@ -11,9 +11,9 @@
 -- permitted, and the run's extension lengths plus 1 are at most K. `Permitted i`: verdicts 1 to 4 find no fault in it.
 -- `WrittenAs i H K state exec ext`: tables of H and K rows, accepted; row r's pc and fp are state r; the last stays.
 -- `written_exec` and `written_ext` are the tables of a run ("The tabler").
--- `answer_for i exec ext`, `exec_left` and `ext_left` are what `tabler::table` promises for two buffers: its answer, and
--- the very bytes that it leaves in them. `Tells` says for each of its verdicts what document 01's table has. `reasons`
--- are what a step is asked, in STUCK's order, and `FirstFailing` is the first of a list that fails.
+-- `answer_for i exec ext`, `exec_left` and `ext_left` are what `tabler::table` promises for two buffers: its answer,
+-- and the very bytes that it leaves in them. `Tells` says for each of its verdicts what document 01's table has.
+-- `reasons` are what a step is asked, in STUCK's order, and `FirstFailing` is the first of a list that fails.
 -- Declared in src/: Answer (answer).
 use Rattle.std.specs.Prelude.{◌≡◌, ◌↔◌, List, ℕ, ◌*◌, ◌<◌, length}
 use Rattle.answer.specs.declared.Answer.{Answer}

@@ -47,7 +47,7 @@ pub record DemandTwo : Type 0 where
   pub extension_shown : (q : Parts) (r n expected found : ℕ) → judge_of q ≡ Extension r n expected found → (Silent expected found → ⊥)
       → Shows (given_of q) (ext_lookups ((tables_of q).ext r)) n expected found
   -- the lookups are those of execution rules 2 to 4 and of extension rules 18 to 21, and ask what these do
-  pub exec_lookups_lem : (g : Given) (x y : ExecRow) (i : Instruction) → LookupsOf g (exec_rules g x y i) (exec_lookups x) (2 ∷ 3 ∷ 4 ∷ [])
+  pub execution_lookups : (g : Given) (x y : ExecRow) (i : Instruction) → LookupsOf g (exec_rules g x y i) (exec_lookups x) (2 ∷ 3 ∷ 4 ∷ [])
   pub extension_lookups : (g : Given) (x y : Ext) → LookupsOf g (ext_rules g x y) (ext_lookups x) (18 ∷ 19 ∷ 20 ∷ 21 ∷ [])
   -- the numbers are said wherever every cell of the lookup under the rule is below M
   pub exec_told : (q : Parts) (r n expected found : ℕ) → judge_of q ≡ Exec r n expected found

@@ -1,2 +1,3 @@
 // The mission's three demands as three records: specs/One, Two and Three. Theorems alone, which proofs/Mission cites
 // from below.
+#![tactic(auto)]

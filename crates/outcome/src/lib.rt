@@ -1,1 +1,2 @@
 // What a step of either machine comes to: definitions alone, in specs/.
+#![tactic(auto)]

@@ -1,4 +1,6 @@
 // A recipe made and tabled, as both programs do: document 01, "Draws, recipe, label".
+#![tactic(auto)]
+
 mod space;
 
 ghost use Rattle.std.specs.Prelude.{◌≡◌, length};

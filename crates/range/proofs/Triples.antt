@@ -1,4 +1,4 @@
--- The instructions of three rows that are listed: each is there and well_formed_lem; and the tests of them, by fewer words.
+-- The instructions of three rows that are listed: each is there and well-formed; and the tests of them, by fewer words.
 -- Assumes nothing.
 use mathlib.Core.Path.{◌≡◌, sym, ap, ◌∙◌}
 use mathlib.Core.Bool.{Bool, true, false, ◌&&◌}

@@ -1,4 +1,4 @@
--- A well_formed_lem instruction's kind is in AUX alone, and so are the finder's tests by fewer words.
+-- A well-formed instruction's kind is in AUX alone, and so are the finder's tests by fewer words.
 -- Assumes nothing.
 use mathlib.Core.Path.{◌≡◌, ap}
 use mathlib.Core.Bool.{Bool, true, ◌&&◌}

@@ -1,4 +1,6 @@
 // The finder of range checks: document 02, M-108.
+#![tactic(auto)]
+
 mod triple;
 mod walk;
 

@@ -1,4 +1,4 @@
-// Three rows of an accepted table, by the words of their instructions. Each is well_formed_lem, so AUX alone tells an ADD
+// Three rows of an accepted table, by the words of their instructions. Each is well-formed, so AUX alone tells an ADD
 // and a DEREF.
 ghost use Rattle.std.specs.Prelude.{◌≡◌, true, [], ◌+◌, ◌*◌, ◌/◌, ◌≤◌, ◌<◌, ◌^◌, length};
 ghost use Rattle.form.specs.Form.{well_formed};

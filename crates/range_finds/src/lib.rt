@@ -1,1 +1,2 @@
 // Laws of finds that the finder stands on, and `range_law` too: proofs/, no function.
+#![tactic(auto)]

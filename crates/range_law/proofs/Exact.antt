@@ -1,4 +1,4 @@
--- Three well_formed_lem instructions pass the finder's tests exactly where they are those of a range check.
+-- Three well-formed instructions pass the finder's tests exactly where they are those of a range check.
 -- Assumes nothing.
 use mathlib.Core.Path.{◌≡◌, sym, ap, ◌∙◌}
 use mathlib.Core.Bool.{true, ◌&&◌, ◌||◌}

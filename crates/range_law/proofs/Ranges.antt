@@ -60,10 +60,10 @@ module _ (q : Parts) where
       three room
       (λ f. absurd (true≢false (ap accepted (sym e ∙ judge_refuses q room f) ∙ f)))
       (λ yes h. (yes, h))
-      (λ yes h. absurd (listed-not (sym (too_short q (ap accepted yes) room h) ∙ e)))
+      (λ yes h. absurd (listed_not (sym (too_short q (ap accepted yes) room h) ∙ e)))
     where
-      listed-not : ListShort (finds_number_in q) ≡ Accepted → ⊥
-      listed-not z = omega (arith, ap (λ (a : Answer). (numbers_of a).verdict) z)
+      listed_not : ListShort (finds_number_in q) ≡ Accepted → ⊥
+      listed_not z = omega (arith, ap (λ (a : Answer). (numbers_of a).verdict) z)
 
   lists : (finds : List ℕ) → ranges_answer q (length finds) ≡ Accepted → Lists q (ranges_found q (length finds)) (finds_left q finds)
   lists finds e =

@@ -1,2 +1,3 @@
 // That range checks bound what they check, and that the finder finds them all: the theorem in specs/, its proof in
 // proofs/.
+#![tactic(auto)]

@@ -1,5 +1,7 @@
 // An answer as a C call gives it: the verdict returned, the six numbers in the caller's 24 bytes; and beside it a
 // number in eight bytes, where the call gives one.
+#![tactic(auto)]
+
 mod told;
 
 ghost use Rattle.std.specs.Prelude.{◌≡◌, length};

@@ -1,4 +1,6 @@
 // The rows of the two tables, as structs, read from their bytes and written back.
+#![tactic(auto)]
+
 mod execution;
 mod extension;
 
@@ -6,7 +8,7 @@ pub use execution::{exec_inside, put_exec};
 pub use extension::{ext_inside, put_ext};
 
 // A row of the execution table: 8 words in this order.
-#[derive(Drop)]
+#[derive(Clone, Copy)]
 pub struct Exec {
     pub pc: u32,
     pub fp: u32,
@@ -19,7 +21,7 @@ pub struct Exec {
 }
 
 // A row of the extension table: ten base columns, then four elements.
-#[derive(Drop)]
+#[derive(Clone, Copy)]
 pub struct Ext {
     pub start: u32,
     pub add: u32,

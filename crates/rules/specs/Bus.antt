@@ -23,7 +23,7 @@ same_tuple s t = eqb s.aux t.aux && eqb s.left t.left && eqb s.right t.right && 
 abbrev pub pushed : Instruction → Exec → Tuple
 pushed i x = record { aux = i.«data»; left = νA i x; right = νB i x; out = νC i x }
 
--- how often an execution row pushes: of a well_formed_lem instruction, once where it is a precompile, and else not
+-- how often an execution row pushes: of a well-formed instruction, once where it is a precompile, and else not
 abbrev pub pushes : Instruction → ℕ
 pushes i = IS_PRECOMPILE i
 

@@ -31,8 +31,8 @@ pub record Satisfies (q : Parts) : Type 0 where
   pub ext_size : T (ext_fits (length q.ext))
   pub program_words : Words q.program
   pub memory_words : Words q.memory
-  pub exec_words_lem : Words q.exec
-  pub ext_words_lem : Words q.ext
+  pub exec_words : Words q.exec
+  pub ext_words : Words q.ext
   pub instructions : (i : ℕ) → i < (given_of q).count → T (well_formed ((given_of q).instruction i))
   pub start_pc : ((tables_of q).exec 0).pc ≡ q.pc
   pub start_fp : ((tables_of q).exec 0).fp ≡ q.fp

@@ -89,7 +89,7 @@ fit_of q program memory program_words memory_words instructions =
       some = omega (arith, cells.number.least);
       cells = memory_words;
       operands = operand_words q.program program_words;
-      well_formed_lem = instructions;
+      well_formed = instructions;
     }
 
 module _ (q : Parts) (s : Satisfies q) where

@@ -31,7 +31,7 @@ use Rattle.answer.specs.declared.Answer.TheVariants.{
   ListShort,
 }
 use Rattle.machine.specs.Machine.{Machine, State, value, legal}
-use Rattle.machine.specs.Extension.{element_at, cells_exist, result, same_element}
+use Rattle.machine.specs.Extension.{element_at, cells_exist, extension_result, same_element}
 use Rattle.machine.specs.Step.{goes, stuck, step, target, target_legal}
 use Rattle.rules.specs.Given.{Rule, rule}
 use Rattle.rules.specs.Sizes.{Parts, exec_fits, ext_fits, given}
@@ -61,7 +61,7 @@ kind_reasons m s f Mul a b c = rule 5 (eqb (a *ₚ c) b) ∷ []
 kind_reasons m s f Deref a b c = rule 5 (eqb (m.cell (target m s f)) c) ∷ []
 kind_reasons m s f Jump a b c = rule 6 (eqb a 0 || eqb a 1) ∷ []
 kind_reasons m s f (ExtensionKind op be n) a b c =
-    rule 7 (cells_exist m.size be n a b c) ∷ rule 8 (same_element (element_at m.cell c) (result m.cell op be a b 0 n)) ∷ []
+    rule 7 (cells_exist m.size be n a b c) ∷ rule 8 (same_element (element_at m.cell c) (extension_result m.cell op be a b 0 n)) ∷ []
 
 abbrev pub reasons : Machine → State → List Rule
 reasons m s =

@@ -13,7 +13,7 @@ use Rattle.form.specs.declared.Op.TheVariants.{Add, Mul, Peq}
 use Rattle.rows.specs.declared.Ext.{Ext}
 use Rattle.rules.specs.Given.{Given, next}
 use Rattle.rules.specs.Extension.{selected}
-use Rattle.machine.specs.Extension.{element_at, left_at, right_at, left_span, term_of, joined, nothing, result}
+use Rattle.machine.specs.Extension.{element_at, left_at, right_at, left_span, term_of, joined, nothing, extension_result}
 use Rattle.tables.specs.Groups.{left_index}
 use Rattle.run_groups.proofs.Legal.{Legal, legal}
 use Rattle.run_groups.proofs.Meaning.{GoesOn, flag_of}
@@ -22,7 +22,7 @@ use Rattle.run_groups.proofs.Fold.{rest_inside, rest_end, selected_left}
 
 -- comp is the fold of n elements from number j on, and their cells exist
 pub record Folds (g : Given) (op : Op) (be : Bool) (a b j n : ℕ) (x : Ext) : Type 0 where
-  pub comp : x.comp ≡ result g.cell op be a b j n
+  pub comp : x.comp ≡ extension_result g.cell op be a b j n
   pub left_exists : x.idxA + left_span be n ≤ g.size
   pub right_exists : x.idxB + 5 * n ≤ g.size
 

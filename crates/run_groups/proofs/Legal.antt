@@ -11,13 +11,13 @@ use Rattle.word.proofs.ElementLaws.{its_words, word_element, sum_element, produc
 use Rattle.form.specs.declared.Op.{Op}
 use Rattle.form.specs.declared.Op.TheVariants.{Add, Mul, Peq}
 use Rattle.rules.specs.Given.{Given}
-use Rattle.machine.specs.Extension.{element_at, left_span, cells_exist, joined, nothing, result, same_element}
+use Rattle.machine.specs.Extension.{element_at, left_span, cells_exist, joined, nothing, extension_result, same_element}
 use Rattle.word.proofs.Tests.{apart, together, eqb_same}
 
 -- the cells of n elements at a and b and of the result at c exist, and the result is at c
 pub record Legal (g : Given) (op : Op) (be : Bool) (n a b c : ℕ) : Type 0 where
   pub exist : T (cells_exist g.size be n a b c)
-  pub same : T (same_element (element_at g.cell c) (result g.cell op be a b 0 n))
+  pub same : T (same_element (element_at g.cell c) (extension_result g.cell op be a b 0 n))
 
 same_element_lem : (x y : List ℕ) → x ≡ y → T (same_element x y)
 same_element_lem x y e = rw e (simp eqb_same tt)
@@ -39,7 +39,7 @@ joined_element Add x y = sum_element x y
 joined_element Mul x y = sum_element x y
 joined_element Peq x y = product_element x y
 
-pub result_element : (cell : ℕ → ℕ) (op : Op) (be : Bool) (a b i n : ℕ) → IsElement (result cell op be a b i n)
+pub result_element : (cell : ℕ → ℕ) (op : Op) (be : Bool) (a b i n : ℕ) → IsElement (extension_result cell op be a b i n)
 result_element cell op be a b i zero = nothing_element op
 result_element cell op be a b i (suc n) = joined_element op _ _
 
@@ -48,7 +48,7 @@ pub record Facts (g : Given) (op : Op) (be : Bool) (n a b c : ℕ) : Type 0 wher
   pub left_exists : a + left_span be n ≤ g.size
   pub right_exists : b + 5 * n ≤ g.size
   pub out_exists : c + 5 ≤ g.size
-  pub holds : element_at g.cell c ≡ result g.cell op be a b 0 n
+  pub holds : element_at g.cell c ≡ extension_result g.cell op be a b 0 n
 
 module _ {g : Given} {op : Op} {be : Bool} {n a b c : ℕ} where
   pub legal : Facts g op be n a b c → Legal g op be n a b c

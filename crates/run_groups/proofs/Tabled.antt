@@ -20,7 +20,7 @@ use Rattle.rules.specs.Given.{Given}
 use Rattle.rules.specs.Extension.{ext_rules, selected}
 use Rattle.rules.specs.Satisfies.{All}
 use Rattle.rules.specs.Bus.{pulled, pulls}
-use Rattle.machine.specs.Extension.{right_at, left_span, term_of, joined, result}
+use Rattle.machine.specs.Extension.{right_at, left_span, term_of, joined, extension_result}
 use Rattle.tables.specs.Groups.{flag_add, flag_mul, flag_peq, left_index, group_row}
 use Rattle.run_groups.proofs.Meaning.{RowWords, IsBit, flag_of, rest_of, GoesOn, Meaning}
 use Rattle.run_groups.proofs.Words.{cells_element}
@@ -112,7 +112,7 @@ module _ {g : Given} {op : Op} {be : Bool} {n a b c : ℕ} (k : Called g op be n
         res = cells_element g k.words c i.2;
       }
 
-  row_meaning : (j : ℕ) → j < n → (y : Ext) → rest_of op y ≡ result g.cell op be a b (suc j) (n - suc j)
+  row_meaning : (j : ℕ) → j < n → (y : Ext) → rest_of op y ≡ extension_result g.cell op be a b (suc j) (n - suc j)
       → (y.start ≡ 0 → GoesOn (group_row g.cell op be n a b c j) y) → (y.start ≡ 1 → n - j ≡ 1)
       → Meaning g (group_row g.cell op be n a b c j) y
   unfolding group_row
@@ -139,7 +139,7 @@ module _ {g : Given} {op : Op} {be : Bool} {n a b c : ℕ} (k : Called g op be n
       own : x.comp ≡ joined op (term_of op (selected x) x.vB) (rest_of op y)
       own =
           let one_more : n - j ≡ suc (n - suc j) = omega arith in
-          ap (result g.cell op be a b j) one_more
+          ap (extension_result g.cell op be a b j) one_more
           ∙ ap₂ (λ (l r : List ℕ). joined op (term_of op l (right_at g.cell b j)) r)
           (sym (selected_left g.cell be a j x (row_words j h) refl refl refl)) (sym rest)
 
@@ -177,7 +177,7 @@ module _ {g : Given} {op : Op} {be : Bool} {n a b c : ℕ} (k : Called g op be n
       let none : 0 ≡ n - suc j = omega arith in
       written g (group_row g.cell op be n a b c j) y (inr one)
       (row_meaning j (omega arith) y
-      (rest_end op y one ∙ ap (result g.cell op be a b (suc j)) none)
+      (rest_end op y one ∙ ap (extension_result g.cell op be a b (suc j)) none)
       (λ z. absurd (omega arith)) (λ _. omega arith))
 
 -- the first row starts the group and pulls the call's tuple once, and the others pull nothing

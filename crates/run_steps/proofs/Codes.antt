@@ -1,4 +1,4 @@
--- ADD, MUL, DEREF, JUMP and IS_PRECOMPILE of each kind: one is 1 and the others 0, by computation at its opcode words.
+-- ADD, MUL, DEREF, JUMP and IS-PRECOMPILE of each kind: one is 1 and the others 0, by computation at its opcode words.
 -- Assumes nothing.
 use mathlib.Core.Path.{◌≡◌}
 use Prim.Native.Nat.{ℕ}

@@ -12,7 +12,7 @@ use Rattle.form.specs.declared.Form.{Form}
 use Rattle.form.specs.declared.Kind.{Kind}
 use Rattle.form.specs.declared.Kind.TheVariants.{Add, Mul, Deref, Jump, Extension}
 use Rattle.machine.specs.Machine.{Machine, State, value, legal}
-use Rattle.machine.specs.Extension.{element_at, cells_exist, result, same_element}
+use Rattle.machine.specs.Extension.{element_at, cells_exist, extension_result, same_element}
 use Rattle.machine.specs.Step.{Outcome, goes, asked, target, target_legal, landing, jumps, performed, step}
 use Rattle.tables.specs.Rows.{form_at}
 use Rattle.run_steps.specs.Setting.{LegalOperands, ExtensionHolds, MemoryHolds}
@@ -94,7 +94,7 @@ module _ (m : Machine) (s t : State) (f : Form) where
     performs_if Jump d x = jumps_if s t a b c d
     performs_if (Extension op be n) w (exist, same) =
         passes 7 (cells_exist m.size be n a b c) exist
-        (passes 8 (same_element (element_at m.cell c) (result m.cell op be a b 0 n)) same (goes_to w))
+        (passes 8 (same_element (element_at m.cell c) (extension_result m.cell op be a b 0 n)) same (goes_to w))
 
     target_if : (k : Kind) → Does m s t f k a b c → T (target_legal m s f k)
     target_if Add d = tt
@@ -116,7 +116,7 @@ module _ (m : Machine) (s t : State) (f : Form) where
     does_what Jump h e = (jumped s t a b c e, tt)
     does_what (Extension op be n) h e =
         let (exist, e) = passed 7 (cells_exist m.size be n a b c) e in
-        let (same, e) = passed 8 (same_element (element_at m.cell c) (result m.cell op be a b 0 n)) e in
+        let (same, e) = passed 8 (same_element (element_at m.cell c) (extension_result m.cell op be a b 0 n)) e in
         (went_to e, (exist, same))
 
 module _ {m : Machine} {s t : State} where

@@ -75,7 +75,7 @@ module _ (g : Given) (s : State) (word addr val flag frame : ℕ) (fit : flag + 
   unfolding ◌-ₚ◌
   column_rules k =
       record {
-        looks_up_lem = looks_up_lem g addr val k.looked;
+        looks_up = looks_up_lem g addr val k.looked;
         at_cell =
             by_flags (λ (x y : ℕ). At s (operand_of x y word) addr → T (zero? ((1 -ₚ x -ₚ y) *ₚ (addr -ₚ (s.fp +ₚ word)))))
             (λ t. holds_off _ refl) (λ t. holds_off _ refl) (λ e. holds_equal 1 e) flag frame fit k.at;

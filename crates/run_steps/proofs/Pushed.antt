@@ -1,4 +1,4 @@
--- What a row of each kind pushes: IS_PRECOMPILE is 1 for an extension alone, and its DATA is its call's.
+-- What a row of each kind pushes: IS-PRECOMPILE is 1 for an extension alone, and its DATA is its call's.
 -- Assumes nothing.
 use mathlib.Core.Path.{sym}
 use Rattle.form.specs.declared.Instruction.{Instruction}

@@ -1,5 +1,5 @@
--- The rules that hold on a row of a well_formed_lem instruction say what Meaning has: operand by operand, and then by kind,
--- since one of ADD, MUL, DEREF, JUMP and IS_PRECOMPILE is 1.
+-- The rules that hold on a row of a well-formed instruction say what Meaning has: operand by operand, and then by kind,
+-- since one of ADD, MUL, DEREF, JUMP and IS-PRECOMPILE is 1.
 -- Assumes nothing.
 use mathlib.Core.Path.{◌≡◌, sym, ◌∙◌, ap, ap₂, subst₃}
 use Prim.Native.Nat.{ℕ, ◌+◌, ◌≤◌, ◌<◌, ◌^◌}
@@ -57,33 +57,33 @@ module _ (g : Given) (x : Exec) (i : Instruction) (f : Form) (formed : Formed i 
       on : i.jump ≡ 0 → Forward (state_of x) (state_of y)
       on z = read_forward _ _ a b c _ (off_times a z) room w.fp v.pc v.fp r.next
 
-      points-at : Words i Deref → x.addrB ≡ target (machine_in g) (state_of x) f
-      points-at ws =
+      points_at : Words i Deref → x.addrB ≡ target (machine_in g) (state_of x) f
+      points_at ws =
           says_equal (codes i Deref ws).deref_is w.addrB (sum_word _ _) r.kind.points ∙ sym (deref_target o ws)
 
-      read-points : (k : Kind) → Words i k → Points (machine_in g) (state_of x) f x.addrB k
-      read-points Add ws = tt
-      read-points Mul ws = tt
-      read-points Deref ws = points-at ws
-      read-points Jump ws = tt
-      read-points (Extension op be n) ws = tt
+      read_points : (k : Kind) → Words i k → Points (machine_in g) (state_of x) f x.addrB k
+      read_points Add ws = tt
+      read_points Mul ws = tt
+      read_points Deref ws = points_at ws
+      read_points Jump ws = tt
+      read_points (Extension op be n) ws = tt
 
-      read-does : (k : Kind) → Words i k → Does (machine_in g) (state_of x) (state_of y) f k a b c
-      read-does Add ws =
+      read_does : (k : Kind) → Words i k → Does (machine_in g) (state_of x) (state_of y) f k a b c
+      read_does Add ws =
           let d = codes i Add ws in
           (sym (says_equal d.add_is wb (sum_word _ _) r.kind.sums), on d.jump_is)
-      read-does Mul ws =
+      read_does Mul ws =
           let d = codes i Mul ws in
           (sym (says_equal d.mul_is wb (product_word _ _) r.kind.multiplies), on d.jump_is)
-      read-does Deref ws =
+      read_does Deref ws =
           let d = codes i Deref ws in
-          let e = points-at ws in
+          let e = points_at ws in
           let l = o.b.looked in
           (rw e at l.exists, ap g.cell (sym e) ∙ sym l.holds ∙ says_equal d.deref_is w.valueB wc r.kind.finds, on d.jump_is)
-      read-does Jump ws =
+      read_does Jump ws =
           let d = codes i Jump ws in
           read_jump _ _ a b c _ (on_times a d.jump_is wa) room w.fp v.pc v.fp wa wb wc r.next
-      read-does (Extension op be n) ws = on (codes i (Extension op be n) ws).jump_is
+      read_does (Extension op be n) ws = on (codes i (Extension op be n) ws).jump_is
 
     -- all sixteen
     pub read : g.count ≤ 2 ^ 20 → OperandWords i → RowRules g x y i → Meaning g x y f
@@ -99,6 +99,6 @@ module _ (g : Given) (x : Exec) (i : Instruction) (f : Form) (formed : Formed i 
         record {
           pc_in = pc_in;
           operands = o;
-          points = read-points room o _ _ _ values.0 values.1 values.2 values.3 f.kind formed.words;
-          does = read-does room o _ _ _ values.0 values.1 values.2 values.3 f.kind formed.words;
+          points = read_points room o _ _ _ values.0 values.1 values.2 values.3 f.kind formed.words;
+          does = read_does room o _ _ _ values.0 values.1 values.2 values.3 f.kind formed.words;
         }

@@ -12,7 +12,7 @@ use Rattle.rules.specs.Satisfies.{All}
 
 -- 2 and 5, 3 and 6, 4 and 7
 pub record OperandRules (g : Given) (flag frame word fp addr val : ℕ) : Type 0 where
-  pub looks_up_lem : T (looks_up g addr val)
+  pub looks_up : T (looks_up g addr val)
   pub at_cell : T (zero? ((1 -ₚ flag -ₚ frame) *ₚ (addr -ₚ (fp +ₚ word))))
 
 -- 8 to 11
@@ -48,9 +48,9 @@ module _ (g : Given) (x y : Exec) (i : Instruction) where
   sorted (r₁, (r₂, (r₃, (r₄, (r₅, (r₆, (r₇, (r₈, (r₉, (r₁₀, (r₁₁, (r₁₂, (r₁₃, (r₁₄, (r₁₅, (r₁₆, end)))))))))))))))) =
       record {
         in_program = r₁;
-        a = record { looks_up_lem = r₂; at_cell = r₅ };
-        b = record { looks_up_lem = r₃; at_cell = r₆ };
-        c = record { looks_up_lem = r₄; at_cell = r₇ };
+        a = record { looks_up = r₂; at_cell = r₅ };
+        b = record { looks_up = r₃; at_cell = r₆ };
+        c = record { looks_up = r₄; at_cell = r₇ };
         values =
             record {
               kind = record { sums = r₈; multiplies = r₉; points = r₁₀; finds = r₁₁ };

@@ -16,7 +16,7 @@ use Rattle.rules.specs.Given.{Given}
 use Rattle.rules.specs.Execution.{νA, νB, νC}
 use Rattle.rules.specs.Bus.{Tuple, pushed, pushes}
 use Rattle.machine.specs.Machine.{Machine, State, value, legal}
-use Rattle.machine.specs.Extension.{element_at, cells_exist, result, same_element}
+use Rattle.machine.specs.Extension.{element_at, cells_exist, extension_result, same_element}
 use Rattle.tables.specs.Machine.{loaded}
 use Rattle.tables.specs.Rows.{form_at}
 
@@ -33,14 +33,14 @@ pub record OperandWords (i : Instruction) : Type 0 where
   pub b : IsWord i.b
   pub c : IsWord i.c
 
--- what the theorems ask: sizes up to the largest, operands and cells below p, and well_formed_lem instructions
+-- what the theorems ask: sizes up to the largest, operands and cells below p, and well-formed instructions
 pub record Fit (g : Given) : Type 0 where
   pub few : g.count ≤ 2 ^ 20
   pub small : g.size ≤ 2 ^ 29
   pub some : 0 < g.size
   pub cells : (k : ℕ) → k < g.size → IsWord (g.cell k)
   pub operands : (k : ℕ) → k < g.count → OperandWords (g.instruction k)
-  pub well_formed_lem : (k : ℕ) → k < g.count → T (well_formed (g.instruction k))
+  pub well_formed : (k : ℕ) → k < g.count → T (well_formed (g.instruction k))
 
 -- every column of a row is a word
 pub record ExecWords (x : Exec) : Type 0 where
@@ -73,7 +73,7 @@ ExtensionHolds m Mul a b c = Unit
 ExtensionHolds m Deref a b c = Unit
 ExtensionHolds m Jump a b c = Unit
 ExtensionHolds m (Extension op be n) a b c =
-    T (cells_exist m.size be n a b c) × T (same_element (element_at m.cell c) (result m.cell op be a b 0 n))
+    T (cells_exist m.size be n a b c) × T (same_element (element_at m.cell c) (extension_result m.cell op be a b 0 n))
 
 -- what the step of a state asks of the memory
 abbrev pub MemoryHolds : Machine → State → Type 0

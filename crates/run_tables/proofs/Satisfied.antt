@@ -41,8 +41,8 @@ module _ {q : Parts} {height ext_height : ℕ} {state : ℕ → State} (run : Ta
         ext_size = rw ext_bytes_lem run.ext_size;
         program_words = run.program_words;
         memory_words = run.memory_words;
-        exec_words_lem = rw run.exec (exec_table_words run.writable);
-        ext_words_lem = rw run.ext (ext_table_words run.writable);
+        exec_words = rw run.exec (exec_table_words run.writable);
+        ext_words = rw run.ext (ext_table_words run.writable);
         instructions = run.writable.fit.well_formed;
         start_pc = ap (λ (s : State). s.pc) first;
         start_fp = ap (λ (s : State). s.fp) first;

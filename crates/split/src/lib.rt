@@ -1,4 +1,6 @@
 // The judge on a memory in two buffers, public words and the rest: document 02, M-109.
+#![tactic(auto)]
+
 ghost use Rattle.std.specs.Prelude.{◌≡◌};
 ghost use Rattle.split_spec.specs.Split.{split_parts_of, public_fits, split_fits, judge_split_of};
 

@@ -1,6 +1,7 @@
 -- Document 02, M-109: "with m' from 0 to m - 1 [..] The answer equals the old judge's on the two joined. Refusals: SIZE
 -- part 2 for a bad m' or either length; WORD counts words as if joined."
--- `judge_split_of` (split_spec) is what `split::judge_split` promises, `judge_of` (judge_spec) what `judge::judge` does.
+-- `judge_split_of` (split_spec) is what `split::judge_split` promises, `judge_of` (judge_spec) what `judge::judge`
+-- does.
 -- Declared in src/: Answer (answer).
 use Rattle.std.specs.Prelude.{ℕ, ◌-◌, ◌*◌, ◌^◌, ◌≤◌, ◌<◌, ◌≡◌, ◌↔◌, true, false, length, take, drop}
 use Rattle.answer.specs.declared.Answer.{Answer}

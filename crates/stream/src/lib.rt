@@ -1,4 +1,6 @@
 // A jump of any number of draws, and a host's start in the stream of one seed. Document 02, M-106.
+#![tactic(auto)]
+
 ghost use Rattle.std.specs.Prelude.{◌≡◌, ◌*◌, ◌^◌, ◌<◌};
 ghost use Rattle.stream_spec.specs.Stream.{advances, after};
 ghost use Rattle.stream_spec.specs.Pairs.{applied};

@@ -1,8 +1,8 @@
 -- Document 02, M-106: "A campaign runs on many hosts. Host k should start k·2^40 draws further on, for k below 2^24
 -- [..] A jump of j equals j single advances. A jump of j and then of k equals a jump of their sum modulo 2^64.
 -- Refusals: 18 HOST for k at or above 2^24; the generator is returned as it came."
--- `after` is what `stream::jump` promises, `start_of` what `stream::start` does, `table` what `stream_pairs::pairs` does
--- (stream_spec).
+-- `after` is what `stream::jump` promises, `start_of` what `stream::start` does, `table` what `stream_pairs::pairs`
+-- does (stream_spec).
 -- Declared in src/: Answer (answer); Generator (draw); Pair (stream_spec).
 use Rattle.std.specs.Prelude.{ℕ, suc, ◌+◌, ◌*◌, ◌%◌, ◌^◌, ◌≤◌, ◌<◌, ◌↔◌, ◌≡◌, length, get_or}
 use Rattle.answer.specs.declared.Answer.TheVariants.{Accepted, Host}

@@ -1,4 +1,6 @@
 // The table of the 64 doubled pairs: entry i is 2^i draws at once. Document 02, M-106.
+#![tactic(auto)]
+
 ghost use Rattle.std.specs.Prelude.{◌≡◌};
 ghost use Rattle.stream_spec.specs.Pairs.{table};
 

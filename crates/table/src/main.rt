@@ -1,10 +1,12 @@
 // The table program: a label on standard input, its four parts on standard output. Document 01, "Draws, recipe, label".
+#![tactic(auto)]
+
 ghost use Rattle.std.specs.Prelude.{◌≡◌, length};
 
 mod made;
 mod output;
 
-use libc::{STDIN_FILENO, STDOUT_FILENO};
+use console::read_full;
 use output::table_label;
 
 // 49,008 zeros: the four parts at their longest.
@@ -15,10 +17,12 @@ fn space() -> [u8; 49008]
 }
 
 // A byte more than the longest label is read: it is refused whatever follows it.
-fn main() {
+fn main(rt: HostRuntime) {
     let mut text = [0u8; 38];
-    let got = io::read_full(STDIN_FILENO, &mut text);
+    let got = read_full(&mut rt.reader(), &mut text);
     let mut out = space();
     let size = table_label(&text[..got], &mut out);
-    io::write_all(STDOUT_FILENO, &out[..size]);
+    match rt.write_all(&out[..size]) {
+        Ok(()) | Err(_) => {}
+    }
 }

@@ -90,6 +90,9 @@ module _ (program memory : List ℕ) (pc fp : ℕ) (exec₀ ext₀ : List ℕ) w
   -- the tabler's three promises
   pub three : {exec ext : List ℕ} {a : Answer}
       → Tabling program memory pc fp exec₀ ext₀ (table_of program memory pc fp (length exec₀) (length ext₀)) exec ext a
-      → (a ≡ table_of program memory pc fp (length exec₀) (length ext₀))
-      × ((exec ≡ exec_after program memory pc fp exec₀ ext₀) × (ext ≡ ext_after program memory pc fp exec₀ ext₀))
-  three w = (w.answer, (w.exec_held, w.ext_held))
+      → record {
+        value : a ≡ table_of program memory pc fp (length exec₀) (length ext₀);
+        exec_after : exec ≡ exec_after program memory pc fp exec₀ ext₀;
+        ext_after : ext ≡ ext_after program memory pc fp exec₀ ext₀;
+      }
+  three w = record { value = w.answer; exec_after = w.exec_held; ext_after = w.ext_held }

@@ -73,17 +73,17 @@ module _ {m : Machine} {start : State} {height room : ℕ} {exec ext : List ℕ}
       no_room full =
           rw e at (fails_here (rw (here, e, lt-leb (filled m (state_at m start) (suc r) + 1) room (omega (arith, count_next)))))
 
-      one-row : exec_bytes (exec_row_of m s) ≡ concatenated (λ j. exec_bytes (exec_row_of m (state_at m start (r + j)))) 1
+      one_row : exec_bytes (exec_row_of m s) ≡ concatenated (λ j. exec_bytes (exec_row_of m (state_at m start (r + j)))) 1
       unfolding concatenated
-      one-row = rw (add-zero r, here)
+      one_row = rw (add-zero r, here)
 
-      its-group : (j : ℕ) → j < length_at m s → ext_bytes (step_row m s j) ≡ ext_bytes (ext_row_of m (state_at m start) 0 height (k + j))
-      its-group j b =
+      its_group : (j : ℕ) → j < length_at m s → ext_bytes (step_row m s j) ≡ ext_bytes (ext_row_of m (state_at m start) 0 height (k + j))
+      its_group j b =
           rw ran.count (ap ext_bytes (sym (rw here at (of_step m (state_at m start) height r j more (rw here b)))))
 
-      comes-next : after m start (r + 1) ≡ goes t
+      comes_next : after m start (r + 1) ≡ goes t
       unfolding after
-      comes-next = rw (add-one r, ran.comes) e
+      comes_next = rw (add-one r, ran.comes) e
 
       pub goes_on : k + length_at m s < room → 32 * r + 32 ≤ length exec → 120 * k + 120 * length_at m s ≤ length ext
           → {exec' ext' : List ℕ}
@@ -97,17 +97,17 @@ module _ {m : Machine} {start : State} {height room : ℕ} {exec ext : List ℕ}
                 walks.goes_past ran.walk more
                 (rw (here, e, le-leb (filled m (state_at m start) (suc r) + 1) room (omega (arith, count_next))));
             fits = enough;
-            comes = comes-next;
+            comes = comes_next;
             count = sym count_next ∙ ap (filled m (state_at m start)) (sym (add-one r));
             last = rw (back, here);
             exec_rows =
                 ap (take (32 * (r + 1))) put-exec
-                ∙ rows_on (λ r. exec_bytes (exec_row_of m (state_at m start r))) 32 exec _ r 1 exec-room (length_bytes (exec_words (exec_row_of m s))) one-row ran.exec_rows;
+                ∙ rows_on (λ r. exec_bytes (exec_row_of m (state_at m start r))) 32 exec _ r 1 exec-room (length_bytes (exec_words (exec_row_of m s))) one_row ran.exec_rows;
             ext_rows =
                 ap (take (120 * (k + length_at m s))) put-ext
                 ∙ rows_on (λ j. ext_bytes (ext_row_of m (state_at m start) 0 height j)) 120 ext _ k (length_at m s) ext-room
                 (rows_length (λ j. ext_bytes (step_row m s j)) 120 (length_at m s) (λ j. length_bytes (ext_words (step_row m s j))))
-                (rows_same (λ j. ext_bytes (step_row m s j)) _ (length_at m s) its-group) ran.ext_rows;
+                (rows_same (λ j. ext_bytes (step_row m s j)) _ (length_at m s) its_group) ran.ext_rows;
           }
 
   module _ {s : State} {r k : ℕ} {stays : Bool} (ran : Ran m start height room exec ext s r k stays) (done : height ≤ r) where

@@ -1,4 +1,6 @@
 // The tabler: a program, a memory and a start, to the two tables of the run.
+#![tactic(auto)]
+
 mod fetch;
 mod finish;
 mod run;

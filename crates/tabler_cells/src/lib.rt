@@ -1,4 +1,6 @@
 // Cells and elements of the memory.
+#![tactic(auto)]
+
 ghost use Rattle.std.specs.Prelude.{◌≡◌, ◌+◌, ◌/◌, ◌≤◌, length};
 ghost use Rattle.rules.specs.Sizes.{word_of};
 ghost use Rattle.machine.specs.Extension.{element_at};

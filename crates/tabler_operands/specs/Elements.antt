@@ -2,7 +2,7 @@
 -- Declared in src/: Group, Joined (here).
 use Rattle.std.specs.Prelude.{Bool, true, false, List, ◌≡◌, ℕ, ◌+◌, ◌-◌, ◌*◌, ◌/◌, ◌≤◌, ◌^◌}
 use Rattle.word.specs.Element.{◌⟨◌⟩, element}
-use Rattle.machine.specs.Extension.{element_at, left_at, right_at, cells_exist, term_of, joined, result, same_element}
+use Rattle.machine.specs.Extension.{element_at, left_at, right_at, cells_exist, term_of, joined, extension_result, same_element}
 use Rattle.tables.specs.Groups.{left_index}
 use Rattle.tabler_operands.specs.declared.Group.{Group}
 use Rattle.tabler_operands.specs.declared.Joined.{Joined}
@@ -26,10 +26,10 @@ group_exists size g = cells_exist size g.be g.n g.a g.b g.c
 
 -- what the elements from j on come to
 abbrev pub result_from : (ℕ → ℕ) → Group → ℕ → List ℕ
-result_from cell g j = result cell g.op g.be g.a g.b j (g.n - j)
+result_from cell g j = extension_result cell g.op g.be g.a g.b j (g.n - j)
 
 abbrev pub result_holds : (ℕ → ℕ) → Group → Bool
-result_holds cell g = same_element (element_at cell g.c) (result cell g.op g.be g.a g.b 0 g.n)
+result_holds cell g = same_element (element_at cell g.c) (extension_result cell g.op g.be g.a g.b 0 g.n)
 
 -- in a memory of so many bytes all cells of a group exist
 pub record GroupExists (bytes : ℕ) (g : Group) : Type 0 where

@@ -1,4 +1,6 @@
 // What a step of the tabler asks of the memory: its operands, each looked at once, and the elements of its group.
+#![tactic(auto)]
+
 mod elements;
 mod look;
 
@@ -7,7 +9,7 @@ use form::Op;
 pub use look::look_all;
 
 // What a step and its row ask of an operand.
-#[derive(Drop)]
+#[derive(Clone, Copy)]
 pub struct Looked {
     pub legal: bool,
     pub addr: u32,
@@ -15,7 +17,7 @@ pub struct Looked {
     pub value: u32,
 }
 
-#[derive(Drop)]
+#[derive(Clone, Copy)]
 pub struct Operands {
     pub a: Looked,
     pub b: Looked,
@@ -23,7 +25,7 @@ pub struct Operands {
 }
 
 // What an extension step works on: n elements at a and at b, and the result at c.
-#[derive(Drop)]
+#[derive(Clone, Copy)]
 pub struct Group {
     pub op: Op,
     pub be: bool,
@@ -34,7 +36,7 @@ pub struct Group {
 }
 
 // Element i of a group: a_i as five cells, b_i, and the term joined to what comes after it.
-#[derive(Drop)]
+#[derive(Clone, Copy)]
 pub struct Joined {
     pub left: [u32; 5],
     pub right: [u32; 5],

@@ -99,8 +99,8 @@ module _ (row : ℕ → List ℕ) where
       fits : size * (j - 1) + size ≡ size * j
       fits = back j some
 
-      pub back-length : length (placed t (size * (j - 1)) (size * (j - 1) + size) x) ≡ length t
-      back-length =
+      pub back_length : length (placed t (size * (j - 1)) (size * (j - 1) + size) x) ≡ length t
+      back_length =
           let f = fits in
           placed_length t x (size * (j - 1)) (size * (j - 1) + size) (omega arith) (omega arith) (omega (arith, put_length t x words (size * (j - 1)) size (omega arith) put wide))
 

@@ -22,7 +22,8 @@ use Rattle.tabler_step.specs.declared.Moved.{Moved}
 
 -- what is handed on after an outcome, and the table with n rows after it
 abbrev Handed : Moved → List ℕ → List ℕ → ℕ → ℕ → List ℕ → Outcome → Type 0
-Handed x ext' ext filled n bytes o = (x ≡ taken_of o (filled + n) (length ext / 120)) × (ext' ≡ taken_ext o filled n bytes ext)
+Handed x ext' ext filled n bytes o =
+    record { value : x ≡ taken_of o (filled + n) (length ext / 120); ext_after : ext' ≡ taken_ext o filled n bytes ext }
 
 -- where all operands are legal what is asked of them decides
 pub all_legal : {a b c : Bool} → a ≡ true → b ≡ true → c ≡ true → {x : Moved} {ext' : List ℕ} (ext : List ℕ) (filled n : ℕ) (bytes : List ℕ) (o : Outcome)
@@ -32,7 +33,7 @@ all_legal ha hb hc ext filled n bytes o h = rw (ha, hb, hc) h
 -- stuck before a group is written
 pub halts : (rule : ℕ) → eqb rule 8 ≡ false → (ext : List ℕ) (filled n : ℕ) (bytes : List ℕ) → Handed (Stuck rule) ext ext filled n bytes (stuck rule)
 unfolding taken_of taken_ext
-halts rule h ext filled n bytes = rw h (refl, refl)
+halts rule h ext filled n bytes = rw h (record { value = refl; ext_after = refl })
 
 with_room : (o : Outcome) {k room : ℕ} → k < room → moved_of o k ≡ taken_of o k room
 unfolding taken_of
@@ -51,18 +52,18 @@ no_bytes cell kind o none = no_rows _ none
 pub no_group : (o : Outcome) (filled : ℕ) (ext : List ℕ) {x : Moved} {bytes : List ℕ} → filled < length ext / 120
     → x ≡ moved_of o filled → bytes ≡ [] → Handed x ext ext filled 0 bytes o
 unfolding taken_ext
-no_group o filled ext h e none = (rw (add-zero filled) (e ∙ with_room o h), untouched (writes o && ltb (filled + 0) (length ext / 120)) ext filled none)
+no_group o filled ext h e none = record { value = rw (add-zero filled) (e ∙ with_room o h); ext_after = untouched (writes o && ltb (filled + 0) (length ext / 120)) ext filled none }
 
 -- a group by whether its result holds
 pub no_room : (holds : Bool) (s : State) (filled n : ℕ) (ext bytes : List ℕ) {x : Moved} → length ext / 120 ≤ filled + n
     → x ≡ cond holds Full (Stuck 8) → Handed x ext ext filled n bytes (asked 8 holds (forward s))
 unfolding taken_of taken_ext
-no_room true s filled n ext bytes h e = rw (le-ltb (filled + n) (length ext / 120) h) (e, refl)
-no_room false s filled n ext bytes h e = rw (le-ltb (filled + n) (length ext / 120) h) (e, refl)
+no_room true s filled n ext bytes h e = rw (le-ltb (filled + n) (length ext / 120) h) (record { value = e; ext_after = refl })
+no_room false s filled n ext bytes h e = rw (le-ltb (filled + n) (length ext / 120) h) (record { value = e; ext_after = refl })
 
 pub with_group : (holds : Bool) (s : State) (filled n : ℕ) (ext bytes : List ℕ) {x : Moved} {ext' : List ℕ} → filled + n < length ext / 120
     → x ≡ moved_of (asked 8 holds (forward s)) (filled + n) → ext' ≡ placed ext (120 * filled) (120 * filled + 120 * n) bytes
     → Handed x ext' ext filled n bytes (asked 8 holds (forward s))
 unfolding taken_of taken_ext
-with_group true s filled n ext bytes h e put = rw (lt-ltb (filled + n) (length ext / 120) h) (e, put)
-with_group false s filled n ext bytes h e put = rw (lt-ltb (filled + n) (length ext / 120) h) (e, put)
+with_group true s filled n ext bytes h e put = rw (lt-ltb (filled + n) (length ext / 120) h) (record { value = e; ext_after = put })
+with_group false s filled n ext bytes h e put = rw (lt-ltb (filled + n) (length ext / 120) h) (record { value = e; ext_after = put })

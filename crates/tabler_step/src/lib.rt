@@ -1,4 +1,6 @@
 // One step of the machine by what its operands read: where it goes, that its group has no room, or why it is stuck.
+#![tactic(auto)]
+
 ghost use Rattle.std.specs.Prelude.{cond, ◌≡◌, ◌+◌, ◌/◌, ◌<◌, ◌^◌, length};
 ghost use Rattle.rules.specs.Sizes.{word_of};
 ghost use Rattle.machine.specs.Step.{asked, forward, jumps};

@@ -9,7 +9,7 @@ use Rattle.form.specs.declared.Kind.{Kind}
 use Rattle.form.specs.declared.Kind.TheVariants.{Add as AddKind, Mul as MulKind, Deref, Jump, Extension}
 use Rattle.rows.specs.declared.Ext.{Ext}
 use Rattle.machine.specs.Machine.{Machine, State, value}
-use Rattle.machine.specs.Extension.{element_at, result}
+use Rattle.machine.specs.Extension.{element_at, extension_result}
 use Rattle.tables.specs.Rows.{form_at}
 
 abbrev pub flag_add : Op → ℕ
@@ -48,7 +48,7 @@ group_row cell op be n a b c j =
       base = cell (left_index be a j);
       vA = element_at cell (left_index be a j);
       vB = element_at cell (b + 5 * j);
-      comp = result cell op be a b j (n - j);
+      comp = extension_result cell op be a b j (n - j);
       res = element_at cell c;
     }
 

@@ -1,1 +1,2 @@
 // The tables of a run: definitions alone, in specs/.
+#![tactic(auto)]

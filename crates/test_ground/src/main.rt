@@ -1,9 +1,12 @@
 // Draws, words in bytes, words modulo p and elements, on some hundred inputs. tests/ground.py computes the same lines
 // by other means.
+#![tactic(auto)]
+
 mod print;
 
 use draw::Generator;
 use print::{bytes, element, end, number, word};
+use std::io;
 
 // Five words as drawn, so also at and above p.
 #[derive(Drop)]
@@ -37,100 +40,104 @@ fn edge_element(i: u32) -> [u32; 5] {
     [edge(k), edge(k + 3), edge(k + 6), edge(k + 9), edge(k + 12)]
 }
 
-fn draws(seed: u64) {
-    io::write_all(1, b"draw");
-    number(seed);
+fn draws(rt: &impl Print, seed: u64) -> io::Result<()> {
+    rt.write_all(b"draw")?;
+    number(rt, seed)?;
     let mut g = Generator::new(seed);
     for _ in 0..8u32 {
         let d = g.draw();
-        word(d.number);
+        word(rt, d.number)?;
         g = d.next;
     }
-    end();
+    end(rt)
 }
 
-fn words(x: u32, y: u32) {
-    io::write_all(1, b"word");
-    word(x);
-    word(y);
-    word(word::add(x, y));
-    word(word::sub(x, y));
-    word(word::mul(x, y));
-    end();
+fn words(rt: &impl Print, x: u32, y: u32) -> io::Result<()> {
+    rt.write_all(b"word")?;
+    word(rt, x)?;
+    word(rt, y)?;
+    word(rt, word::add(x, y))?;
+    word(rt, word::sub(x, y))?;
+    word(rt, word::mul(x, y))?;
+    end(rt)
 }
 
-fn edge_words() {
+fn edge_words(rt: &impl Print) -> io::Result<()> {
     for k in 0..64 {
-        words(edge(k / 8), edge(k));
+        words(rt, edge(k / 8), edge(k))?;
     }
+    Ok(())
 }
 
-fn drawn_words(seed: u64) {
+fn drawn_words(rt: &impl Print, seed: u64) -> io::Result<()> {
     let mut g = Generator::new(seed);
     for _ in 0..40u32 {
         let x = g.draw();
         let y = x.next.draw();
-        words(x.number, y.number);
+        words(rt, x.number, y.number)?;
         g = y.next;
     }
+    Ok(())
 }
 
-fn elements(a: [u32; 5], b: [u32; 5]) {
-    element(b"a", a);
-    element(b"b", b);
-    element(b"sum", element::sum(a, b));
-    element(b"difference", element::difference(a, b));
-    element(b"product", element::product(a, b));
-    element(b"peq", element::peq(a, b));
+fn elements(rt: &impl Print, a: [u32; 5], b: [u32; 5]) -> io::Result<()> {
+    element(rt, b"a", a)?;
+    element(rt, b"b", b)?;
+    element(rt, b"sum", element::sum(a, b))?;
+    element(rt, b"difference", element::difference(a, b))?;
+    element(rt, b"product", element::product(a, b))?;
+    element(rt, b"peq", element::peq(a, b))
 }
 
-fn edge_elements() {
+fn edge_elements(rt: &impl Print) -> io::Result<()> {
     for k in 0..8 {
-        elements(edge_element(k), edge_element(k * 3 + 1));
+        elements(rt, edge_element(k), edge_element(k * 3 + 1))?;
     }
+    Ok(())
 }
 
-fn drawn_elements(seed: u64) {
+fn drawn_elements(rt: &impl Print, seed: u64) -> io::Result<()> {
     let mut g = Generator::new(seed);
     for k in 0..10 {
         let first = draw_element(g);
         let second = draw_element(first.next);
         let a = first.words;
         let b = second.words;
-        elements(a, b);
-        elements(b, edge_element(k));
+        elements(rt, a, b)?;
+        elements(rt, b, edge_element(k))?;
         g = second.next;
     }
+    Ok(())
 }
 
 // A word read at a byte of eleven, and one written there.
-fn bytes_at(at: usize) {
+fn bytes_at(rt: &impl Print, at: usize) -> io::Result<()> {
     let mut s: [u8; 11] = [1, 255, 2, 254, 128, 127, 0, 77, 200, 31, 250];
-    io::write_all(1, b"bytes");
-    number(at as u64);
-    word(word::word_at(&s, at));
+    rt.write_all(b"bytes")?;
+    number(rt, at as u64)?;
+    word(rt, word::word_at(&s, at))?;
     word::put_word(&mut s, at, 3735928559);
-    bytes(&s);
-    end();
+    bytes(rt, &s)?;
+    end(rt)
 }
 
-fn all_bytes() {
+fn all_bytes(rt: &impl Print) -> io::Result<()> {
     for at in 0..16 {
-        bytes_at(at);
+        bytes_at(rt, at)?;
     }
-    bytes_at(18446744073709551615);
+    bytes_at(rt, 18446744073709551615)
 }
 
-fn main() {
-    draws(0);
-    draws(1);
-    draws(4294967296);
-    draws(0x000000012fffffff);
-    draws(0xffffffff2fffffff);
-    draws(0xffffffffffffffff);
-    edge_words();
-    drawn_words(0x000000012fffffff);
-    edge_elements();
-    drawn_elements(0xffffffff2fffffff);
-    all_bytes();
+fn main(rt: HostRuntime) -> io::Result<()> {
+    draws(&rt, 0)?;
+    draws(&rt, 1)?;
+    draws(&rt, 4294967296)?;
+    draws(&rt, 0x000000012fffffff)?;
+    draws(&rt, 0xffffffff2fffffff)?;
+    draws(&rt, 0xffffffffffffffff)?;
+    edge_words(&rt)?;
+    drawn_words(&rt, 0x000000012fffffff)?;
+    edge_elements(&rt)?;
+    drawn_elements(&rt, 0xffffffff2fffffff)?;
+    all_bytes(&rt)
 }

@@ -1,33 +1,35 @@
 // A line is a name and numbers, each after a space.
-pub(crate) fn number(n: u64) {
-    io::write_all(1, b" ");
-    io::print_decimal(1, n);
+use std::io;
+
+pub(crate) fn number(rt: &impl Print, n: u64) -> io::Result<()> {
+    print!(rt; " {n}")
 }
 
-pub(crate) fn word(x: u32) {
-    number(x as u64);
+pub(crate) fn word(rt: &impl Print, x: u32) -> io::Result<()> {
+    number(rt, x as u64)
 }
 
-pub(crate) fn end() {
-    io::write_all(1, b"\n");
+pub(crate) fn end(rt: &impl Print) -> io::Result<()> {
+    rt.write_all(b"\n")
 }
 
-pub(crate) fn element(name: &[u8], a: [u32; 5]) {
-    io::write_all(1, name);
-    word(a[0]);
-    word(a[1]);
-    word(a[2]);
-    word(a[3]);
-    word(a[4]);
-    end();
+pub(crate) fn element(rt: &impl Print, name: &[u8], a: [u32; 5]) -> io::Result<()> {
+    rt.write_all(name)?;
+    word(rt, a[0])?;
+    word(rt, a[1])?;
+    word(rt, a[2])?;
+    word(rt, a[3])?;
+    word(rt, a[4])?;
+    end(rt)
 }
 
-fn byte(x: u8) {
-    number(x as u64);
+fn byte(rt: &impl Print, x: u8) -> io::Result<()> {
+    number(rt, x as u64)
 }
 
-pub(crate) fn bytes(s: &[u8]) {
+pub(crate) fn bytes(rt: &impl Print, s: &[u8]) -> io::Result<()> {
     for i in 0..s.len() {
-        byte(s[i]);
+        byte(rt, s[i])?;
     }
+    Ok(())
 }

@@ -1,2 +1,3 @@
 // No function: the marked numbers of document 01 as a table, specs/, and the claim that the definitions give them,
 // proofs/.
+#![tactic(auto)]

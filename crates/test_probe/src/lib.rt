@@ -1,4 +1,6 @@
 // What the tests call beyond the C library: tabler, maker and label writer. Customers never link it.
+#![tactic(auto)]
+
 ghost use Rattle.std.specs.Prelude.{◌≡◌, length};
 ghost use Rattle.label.specs.Reader.{recipe_of};
 ghost use Rattle.label.specs.Writing.{written, buffered};

@@ -1,12 +1,16 @@
 // Judges and tables parts that commands on standard input write, and prints each answer. tests/trials.py makes the
 // commands and computes what must come out.
+#![tactic(auto)]
+
 ghost use Rattle.std.specs.Prelude.{◌≤◌, ◌<◌};
 
 use answer::Answer;
-use libc::{STDIN_FILENO, STDOUT_FILENO};
+use console::read_full;
+use std::io;
+use std::io::Read;
 
 // What is handed in beside the parts' bytes: the length of each, and the start. A malformed command ends it.
-#[derive(Drop)]
+#[derive(Clone, Copy)]
 struct Given {
     program: usize,
     memory: usize,
@@ -53,25 +57,25 @@ fn least(a: usize, b: usize) -> usize
     b
 }
 
-fn read_command() -> Command {
+fn read_command(input: &mut impl Read) -> io::Result<Command> {
     let mut head = [0u8; 8];
-    let got = io::read_full(STDIN_FILENO, &mut head);
+    let got = read_full(input, &mut head);
     if got < 8 {
-        return Command {
+        return Ok(Command {
             kind: 0,
             part: 0,
             at: 0,
             size: 0,
             stop: 0,
-        };
+        });
     }
-    Command {
+    Ok(Command {
         kind: head[0],
         part: head[1],
         at: two(head[2], head[3]),
         size: two(head[4], head[5]),
         stop: two(head[6], head[7]),
-    }
+    })
 }
 
 // What stands from `at` on is repeated to `stop`.
@@ -90,36 +94,37 @@ fn repeat(part: &mut [u8], at: usize, size: usize, stop: usize) {
 }
 
 // F: `size` bytes of standard input, from `at` on, again and again up to `stop`.
-fn fill(part: &mut [u8], c: Command) -> bool {
+fn fill(input: &mut impl Read, part: &mut [u8], c: Command) -> io::Result<bool> {
     let at = c.at;
     let size = c.size;
     let stop = c.stop;
     if part.len() < at {
-        return false;
+        return Ok(false);
     }
     if part.len() - at < size {
-        return false;
+        return Ok(false);
     }
     let end = at + size;
-    let got = io::read_full(STDIN_FILENO, &mut part[at..end]);
+    let got = read_full(input, &mut part[at..end]);
     repeat(part, end, size, stop);
-    got == size
+    Ok(got == size)
 }
 
 fn fill_part(
+    input: &mut impl Read,
     c: Command,
     program: &mut [u8],
     memory: &mut [u8],
     exec: &mut [u8],
     ext: &mut [u8],
-) -> bool {
+) -> io::Result<bool> {
     let part = c.part;
     match part {
-        1 => fill(program, c),
-        2 => fill(memory, c),
-        3 => fill(exec, c),
-        4 => fill(ext, c),
-        _ => false,
+        1 => fill(input, program, c),
+        2 => fill(input, memory, c),
+        3 => fill(input, exec, c),
+        4 => fill(input, ext, c),
+        _ => Ok(false),
     }
 }
 
@@ -155,118 +160,151 @@ impl Given {
     }
 
     // S: pc and fp, eight bytes each.
-    fn started(mut self) -> Self {
+    fn started(mut self, input: &mut impl Read) -> io::Result<Self> {
         let mut s = [0u8; 16];
-        let got = io::read_full(STDIN_FILENO, &mut s);
+        let got = read_full(input, &mut s);
         self.pc = four(&s, 0) + 4294967296 * four(&s, 4);
         self.fp = four(&s, 8) + 4294967296 * four(&s, 12);
         self.going = got == 16;
-        self
+        Ok(self)
     }
 }
 
-fn number(n: u64) {
-    io::print_decimal(STDOUT_FILENO, n);
-    io::write_all(STDOUT_FILENO, b" ");
+fn number(rt: &impl Print, n: u64) -> io::Result<()> {
+    print!(rt; "{n} ")
 }
 
-fn show_answer(a: Answer) {
+fn show_answer(rt: &impl Print, a: Answer) -> io::Result<()> {
     let six = answer::six_numbers(a);
-    number(six.verdict as u64);
-    number(six.part as u64);
-    number(six.place as u64);
-    number(six.rule as u64);
-    number(six.expected as u64);
-    number(six.found as u64);
+    number(rt, six.verdict as u64)?;
+    number(rt, six.part as u64)?;
+    number(rt, six.place as u64)?;
+    number(rt, six.rule as u64)?;
+    number(rt, six.expected as u64)?;
+    number(rt, six.found as u64)
 }
 
 // The bytes as digits, modulo a prime near 2^55: a change within six neighbours is always seen.
 fn checksum(bytes: &[u8]) -> u64 {
     let mut sum: u64 = 1;
-    let mut i = 0;
-    while i < bytes.len() {
-        sum = (sum * 257 + wide(bytes[i])) % 36028797018963913;
-        i += 1;
+    for byte in bytes {
+        sum = (sum * 257 + wide(*byte)) % 36028797018963913;
     }
     sum
 }
 
 // J: a line of the answer's six numbers.
-fn show_judged(given: Given, program: &[u8], memory: &[u8], exec: &[u8], ext: &[u8]) {
+fn show_judged(
+    rt: &impl Print,
+    given: Given,
+    program: &[u8],
+    memory: &[u8],
+    exec: &[u8],
+    ext: &[u8],
+) -> io::Result<()> {
     let p = least(given.program, program.len());
     let m = least(given.memory, memory.len());
     let h = least(given.exec, exec.len());
     let k = least(given.ext, ext.len());
-    show_answer(judge::judge(
+    let answer = judge::judge(
         &program[..p],
         &memory[..m],
         given.pc,
         given.fp,
         &exec[..h],
         &ext[..k],
-    ));
-    io::write_all(STDOUT_FILENO, b"\n");
+    );
+    show_answer(rt, answer)?;
+    rt.write_all(b"\n")
 }
 
 // T: a line of verdict, part, place, rule, and a checksum of each table.
-fn show_tabled(given: Given, program: &[u8], memory: &[u8], exec: &mut [u8], ext: &mut [u8]) {
+fn show_tabled(
+    rt: &impl Print,
+    given: Given,
+    program: &[u8],
+    memory: &[u8],
+    exec: &mut [u8],
+    ext: &mut [u8],
+) -> io::Result<()> {
     let p = least(given.program, program.len());
     let m = least(given.memory, memory.len());
     let h = least(given.exec, exec.len());
     let k = least(given.ext, ext.len());
-    show_answer(tabler::table(
+    let answer = tabler::table(
         &program[..p],
         &memory[..m],
         given.pc,
         given.fp,
         &mut exec[..h],
         &mut ext[..k],
-    ));
-    number(checksum(&exec[..h]));
-    number(checksum(&ext[..k]));
-    io::write_all(STDOUT_FILENO, b"\n");
+    );
+    show_answer(rt, answer)?;
+    number(rt, checksum(&exec[..h]))?;
+    number(rt, checksum(&ext[..k]))?;
+    rt.write_all(b"\n")
 }
 
 fn obey(
+    rt: &impl Print,
+    input: &mut impl Read,
     given: Given,
     program: &mut [u8],
     memory: &mut [u8],
     exec: &mut [u8],
     ext: &mut [u8],
-) -> Given {
-    let c = read_command();
+) -> io::Result<Given> {
+    let c = read_command(input)?;
     let kind = c.kind;
     match kind {
-        b'F' => given.if_going(fill_part(c, program, memory, exec, ext)),
-        b'L' => given.sized(c),
-        b'S' => given.started(),
+        b'F' => {
+            let filled = fill_part(input, c, program, memory, exec, ext)?;
+            Ok(given.if_going(filled))
+        }
+        b'L' => Ok(given.sized(c)),
+        b'S' => given.started(input),
         b'J' => {
-            show_judged(given, program, memory, exec, ext);
-            given
+            show_judged(rt, given, program, memory, exec, ext)?;
+            Ok(given)
         }
         b'T' => {
-            show_tabled(given, program, memory, exec, ext);
-            given
+            show_tabled(rt, given, program, memory, exec, ext)?;
+            Ok(given)
         }
-        _ => given.if_going(false),
+        _ => Ok(given.if_going(false)),
     }
 }
 
 // Commands until one is malformed; the count sees to it that the program ends.
-fn obey_all(program: &mut [u8], memory: &mut [u8], exec: &mut [u8], ext: &mut [u8]) {
+fn obey_all(
+    rt: &impl Print,
+    input: &mut impl Read,
+    program: &mut [u8],
+    memory: &mut [u8],
+    exec: &mut [u8],
+    ext: &mut [u8],
+) -> io::Result<()> {
     let mut given = Given::new();
     for _ in 0..100000u32 {
-        given = obey(given, program, memory, exec, ext);
+        given = obey(rt, input, given, program, memory, exec, ext)?;
         if !given.going {
-            return;
+            return Ok(());
         }
     }
+    Ok(())
 }
 
-fn main() {
-    let mut program = io::large_buffer();
-    let mut memory = io::large_buffer();
-    let mut exec = io::large_buffer();
-    let mut ext = io::large_buffer();
-    obey_all(&mut program, &mut memory, &mut exec, &mut ext);
+fn main(rt: HostRuntime) -> io::Result<()> {
+    let mut program = [0u8; 65536];
+    let mut memory = [0u8; 65536];
+    let mut exec = [0u8; 65536];
+    let mut ext = [0u8; 65536];
+    obey_all(
+        &rt,
+        &mut rt.reader(),
+        &mut program,
+        &mut memory,
+        &mut exec,
+        &mut ext,
+    )
 }

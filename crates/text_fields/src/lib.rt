@@ -1,5 +1,7 @@
 // A text's fields, one behind the other: each reader goes on from a cursor and stops at the first byte that its field
 // cannot have.
+#![tactic(auto)]
+
 mod digit;
 mod hex;
 mod letter;
@@ -17,7 +19,7 @@ pub use letter::read_letter;
 pub use number::read_number;
 
 // How far a text is read: the last field's value, and the place behind it; or where the text leaves every valid one.
-#[derive(Drop)]
+#[derive(Clone, Copy)]
 pub struct Cursor {
     pub at: usize,
     pub value: u64,

@@ -106,10 +106,10 @@ module _ {S : Type 0} (next : S → ℕ → Option S) where
     -- the states of which it is known that they are live
     module _ (Known : S → Type 0) (keeps : (s : S) (b : ℕ) (q : S) → Known s → next s b ≡ some q → Known q)
         (lives : (s : S) → Known s → (w : List ℕ) × Taken next ends s w) where
-      attained-from : (t : List ℕ) (s : S) → Known s → (w : List ℕ) × Taken next ends s w × (shared w t ≡ count next s t)
+      attained_from : (t : List ℕ) (s : S) → Known s → (w : List ℕ) × Taken next ends s w × (shared w t ≡ count next s t)
       unfolding count
-      attained-from [] s h = let l = lives s h in (l.0, l.1, shared_nil l.0)
-      attained-from (b ∷ t) s h = go (next s b) refl (λ q. attained-from t q)
+      attained_from [] s h = let l = lives s h in (l.0, l.1, shared_nil l.0)
+      attained_from (b ∷ t) s h = go (next s b) refl (λ q. attained_from t q)
         where
           go : (o : Option S) → next s b ≡ o
               → ((q : S) → Known q → (w : List ℕ) × Taken next ends q w × (shared w t ≡ count next q t))
@@ -138,7 +138,7 @@ module _ {S : Type 0} {Valid : List ℕ → Type 0} {start : S} {next : S → �
   pub place : (t : List ℕ) → Place Valid t (count next start t)
   unfolding follow
   place t =
-      let a = attained-from next ends Reached further lives t start ([], refl) in
+      let a = attained_from next ends Reached further lives t start ([], refl) in
       record {
         attained = (a.0, (r.exact a.0).1 a.1, a.2);
         most = λ w h. most_from next ends t start w ((r.exact w).0 h);

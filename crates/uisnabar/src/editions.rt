@@ -5,8 +5,7 @@ ghost use Rattle.uisnabar_edition.specs.TranslateCall.{translate_returned, trans
 use uisnabar_edition::translate_call;
 
 // A program translated into the form of draft 0.6.0.
-#[unsafe(no_mangle)]
-pub extern "C" fn uisnabar_translate(old: &[u8], program: &mut [u8], answer: &mut [u8]) -> u32
+pub fn uisnabar_translate(old: &[u8], program: &mut [u8], answer: &mut [u8]) -> u32
     ensures value { result ≡ translate_returned old.now program.old answer.old }
     ensures program_after { program.new ≡ translate_program_left old.now program.old answer.old }
     ensures answer_after { answer.new ≡ translate_answer_left old.now program.old answer.old }

@@ -7,8 +7,7 @@ ghost use Rattle.uisnabar_forms.specs.ReportCall.{report_returned, report_text_l
 use uisnabar_forms::{count_call, report_call};
 
 // A table counted into a grid.
-#[unsafe(no_mangle)]
-pub extern "C" fn uisnabar_count(
+pub fn uisnabar_count(
     program: &[u8],
     memory: &[u8],
     pc: u64,
@@ -26,13 +25,7 @@ pub extern "C" fn uisnabar_count(
 }
 
 // A grid's report.
-#[unsafe(no_mangle)]
-pub extern "C" fn uisnabar_report(
-    grid: &[u8],
-    text: &mut [u8],
-    written: &mut [u8],
-    answer: &mut [u8],
-) -> u32
+pub fn uisnabar_report(grid: &[u8], text: &mut [u8], written: &mut [u8], answer: &mut [u8]) -> u32
     ensures value { result ≡ report_returned grid.now text.old written.old answer.old }
     ensures text_after { text.new ≡ report_text_left grid.now text.old written.old answer.old }
     ensures written_after { written.new ≡ report_written_left grid.now text.old written.old answer.old }

@@ -1,5 +1,7 @@
 // The C library: the judge on one buffer and on two, form counts, programs from draft 0.5.0, listings, streams, range
 // checks and the label reader, as include/uisnabar.h declares them.
+#![tactic(auto)]
+
 mod editions;
 mod forms;
 mod listings;
@@ -25,8 +27,7 @@ pub use two_buffers::uisnabar_judge_split;
 use word::put_word;
 
 // The judge. ANSWER comes first, so nothing is judged for a caller who cannot be told.
-#[unsafe(no_mangle)]
-pub extern "C" fn uisnabar_judge(
+pub fn uisnabar_judge(
     program: &[u8],
     memory: &[u8],
     pc: u64,
@@ -68,8 +69,7 @@ fn put_recipe(recipe: &mut [u8], a: Answer, r: Recipe)
 }
 
 // The label reader. ANSWER is the answer before any other, for either buffer.
-#[unsafe(no_mangle)]
-pub extern "C" fn uisnabar_label(text: &[u8], answer: &mut [u8], recipe: &mut [u8]) -> u32
+pub fn uisnabar_label(text: &[u8], answer: &mut [u8], recipe: &mut [u8]) -> u32
     ensures { LabelCall text.now answer.old recipe.old answer.new recipe.new result }
 {
     let reading = read_label(text);

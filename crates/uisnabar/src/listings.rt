@@ -6,13 +6,7 @@ ghost use Rattle.uisnabar_listing.specs.ReadListingCall.{ReadListingCall};
 use uisnabar_listing::{list_call, read_listing_call};
 
 // A program's listing.
-#[unsafe(no_mangle)]
-pub extern "C" fn uisnabar_list(
-    program: &[u8],
-    text: &mut [u8],
-    written: &mut [u8],
-    answer: &mut [u8],
-) -> u32
+pub fn uisnabar_list(program: &[u8], text: &mut [u8], written: &mut [u8], answer: &mut [u8]) -> u32
     ensures value { result ≡ list_returned program.now text.old written.old answer.old }
     ensures text_after { text.new ≡ list_text_left program.now text.old written.old answer.old }
     ensures written_after { written.new ≡ list_written_left program.now text.old written.old answer.old }
@@ -22,8 +16,7 @@ pub extern "C" fn uisnabar_list(
 }
 
 // A listing's program.
-#[unsafe(no_mangle)]
-pub extern "C" fn uisnabar_read_listing(
+pub fn uisnabar_read_listing(
     text: &[u8],
     program: &mut [u8],
     written: &mut [u8],

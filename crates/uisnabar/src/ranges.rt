@@ -6,8 +6,7 @@ ghost use Rattle.uisnabar_range.specs.RangesCall.{ranges_returned, ranges_finds_
 use uisnabar_range::ranges_call;
 
 // The range checks of a table.
-#[unsafe(no_mangle)]
-pub extern "C" fn uisnabar_ranges(
+pub fn uisnabar_ranges(
     program: &[u8],
     memory: &[u8],
     pc: u64,

@@ -12,8 +12,7 @@ ghost use Rattle.uisnabar_stream.specs.StreamCalls.{
 use uisnabar_stream::{host_call, jump_call};
 
 // A state so many draws further on.
-#[unsafe(no_mangle)]
-pub extern "C" fn uisnabar_jump(state: u64, draws: u64, next: &mut [u8], answer: &mut [u8]) -> u32
+pub fn uisnabar_jump(state: u64, draws: u64, next: &mut [u8], answer: &mut [u8]) -> u32
     ensures value { result ≡ jump_returned next.old answer.old }
     ensures next_after { next.new ≡ jump_next_left state draws next.old answer.old }
     ensures answer_after { answer.new ≡ jump_answer_left next.old answer.old }
@@ -22,8 +21,7 @@ pub extern "C" fn uisnabar_jump(state: u64, draws: u64, next: &mut [u8], answer:
 }
 
 // A host's first state.
-#[unsafe(no_mangle)]
-pub extern "C" fn uisnabar_host(seed: u64, host: u64, next: &mut [u8], answer: &mut [u8]) -> u32
+pub fn uisnabar_host(seed: u64, host: u64, next: &mut [u8], answer: &mut [u8]) -> u32
     ensures value { result ≡ host_returned seed host next.old answer.old }
     ensures next_after { next.new ≡ host_next_left seed host next.old answer.old }
     ensures answer_after { answer.new ≡ host_answer_left seed host next.old answer.old }

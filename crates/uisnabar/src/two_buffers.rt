@@ -6,8 +6,7 @@ ghost use Rattle.split_spec.specs.Split.{split_parts_of, judge_split_of};
 use uisnabar_split::split_call;
 
 // The judge, with public words in their own buffer.
-#[unsafe(no_mangle)]
-pub extern "C" fn uisnabar_judge_split<'a>(
+pub fn uisnabar_judge_split<'a>(
     program: &[u8],
     public: &'a [u8],
     rest: &'a [u8],

@@ -1,4 +1,6 @@
 // Programs from draft 0.5.0 as a C call gives them: document 02, M-102. The library's function hands on to this one.
+#![tactic(auto)]
+
 ghost use Rattle.std.specs.Prelude.{◌≡◌};
 ghost use Rattle.uisnabar_edition.specs.TranslateCall.{translate_returned, translate_program_left, translate_answer_left};
 

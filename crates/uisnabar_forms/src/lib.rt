@@ -1,4 +1,6 @@
 // Form counts as C calls give them: document 02, M-100. The library's functions hand on to these.
+#![tactic(auto)]
+
 ghost use Rattle.std.specs.Prelude.{◌≡◌, cond, ◌&&◌, eqb, length};
 ghost use Rattle.answer.specs.Verdicts.{accepted};
 ghost use Rattle.rules.specs.Sizes.{parts_of};

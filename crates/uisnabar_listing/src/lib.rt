@@ -1,4 +1,6 @@
 // Listings as C calls give them: document 02, M-105. The library's functions hand on to these.
+#![tactic(auto)]
+
 ghost use Rattle.std.specs.Prelude.{◌≡◌};
 ghost use Rattle.uisnabar_listing.specs.ListCall.{list_returned, list_text_left, list_written_left, list_answer_left};
 ghost use Rattle.uisnabar_listing.specs.ReadListingCall.{ReadListingCall};

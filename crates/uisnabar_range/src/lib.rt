@@ -1,4 +1,6 @@
 // Range checks as a C call gives them: document 02, M-108. The library's function hands on to this.
+#![tactic(auto)]
+
 ghost use Rattle.std.specs.Prelude.{◌≡◌};
 ghost use Rattle.rules.specs.Sizes.{parts_of};
 ghost use Rattle.uisnabar_range.specs.RangesCall.{ranges_returned, ranges_finds_left, ranges_found_left, ranges_answer_left};

@@ -1,5 +1,7 @@
 // The judge on a memory in two buffers as a C call gives it: document 02, M-109. The library's function hands on to
 // this.
+#![tactic(auto)]
+
 ghost use Rattle.std.specs.Prelude.{◌≡◌};
 ghost use Rattle.reply.specs.Reply.{returned, replied};
 ghost use Rattle.split_spec.specs.Split.{split_parts_of, judge_split_of};

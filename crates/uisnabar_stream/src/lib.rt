@@ -1,4 +1,6 @@
 // Streams as C calls give them: document 02, M-106. The library's functions hand on to these.
+#![tactic(auto)]
+
 ghost use Rattle.std.specs.Prelude.{◌≡◌};
 ghost use Rattle.uisnabar_stream.specs.StreamCalls.{
   jump_returned,

@@ -1,4 +1,6 @@
 // Words modulo p, and words in bytes.
+#![tactic(auto)]
+
 mod bytes;
 
 ghost use Rattle.std.specs.Prelude.{◌≡◌, ◌<◌, ◌%◌};

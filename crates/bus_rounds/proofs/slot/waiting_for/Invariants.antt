@@ -1,0 +1,13 @@
+-- The slot that is found was read, and its tuple compared.
+use native.Mathlib.Omega.{arith}
+use Prim.Native.Nat.{◌-◌, ◌<◌}
+use mathlib.Core.Path.{ap, sym, ◌∙◌}
+use Rattle.bus_rounds.specs.Slots.{waiting, Tagged}
+use borrow.Author.Rules.{rules}
+use Rattle.bus_rounds.proofs.slot.waiting_for.Given as goal
+
+abbrev pub invariant-loop-tried : goal.invariant-loop-tried
+invariant-loop-tried l = (l.s < 6553) × (l.step < 6553) × Tagged l.span l.low
+
+abbrev pub decreases-loop-tried : goal.decreases-loop-tried
+decreases-loop-tried l = 2048 - l.tried

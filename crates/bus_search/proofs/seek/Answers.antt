@@ -1,0 +1,27 @@
+-- Each test is the definition's.
+use Rattle.std.proofs.Common.{true, false, sym, ◌∙◌, rules}
+use borrow.Author.Tests.{not-true, not-false}
+use Rattle.bus_search.proofs.Slots.{slot_zero, slot_unmarked, slot_is}
+use Rattle.bus_search.proofs.seek.Goals as goal
+
+pub returns-then-holds : goal.returns-then-holds
+returns-then-holds c = slot_zero _ _ _ _ (sym c.holds.ensures ∙ c.if-holds.true)
+
+pub returns-then-not-is_marked : goal.returns-then-not-is_marked
+returns-then-not-is_marked c =
+    slot_unmarked _ _ _ _ (sym c.holds.ensures ∙ c.if-holds.false)
+    (sym c.is_marked.ensures ∙ c.if-not-is_marked.true)
+
+pub returns-then-holds-2 : goal.returns-then-holds-2
+returns-then-holds-2 c =
+    let place = c.place-at in
+    let marked = c in
+    slot_is _ _ _ _ place.result true place.ensures.0 (sym marked.holds.ensures ∙ marked.if-holds.false)
+    (sym marked.is_marked.ensures ∙ c.if-not-is_marked.false) (sym c.holds-2.ensures ∙ c.if-holds-2.true)
+
+pub returns : goal.returns
+returns c =
+    let place = c.place-at in
+    let marked = c in
+    slot_is _ _ _ _ place.result false place.ensures.0 (sym marked.holds.ensures ∙ marked.if-holds.false)
+    (sym marked.is_marked.ensures ∙ c.if-not-is_marked.false) (sym c.holds-2.ensures ∙ c.if-holds-2.false)

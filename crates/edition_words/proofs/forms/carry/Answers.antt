@@ -1,0 +1,10 @@
+-- The test of the C flag picks the same form in `carried`.
+use borrow.Author.Rules.{rules}
+use borrow.Author.Tests.{ne_eqb}
+use Rattle.edition_words.proofs.forms.carry.Goals as goal
+
+pub returns-then-e-eq1 : goal.returns-then-e-eq1
+returns-then-e-eq1 c = rw (c.three_form.ensures, c.if-e-eq1.true)
+
+pub returns : goal.returns
+returns c = rw (c.three_form-2.ensures, ne_eqb _ _ c.if-e-eq1.false)

@@ -1,0 +1,6 @@
+-- Each test is the definition's.
+use borrow.Author.Rules.{rules}
+use Rattle.inputs.proofs.size.bad_part.Goals as goal
+
+pub returns : goal.returns
+returns c = cc

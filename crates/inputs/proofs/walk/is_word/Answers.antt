@@ -1,0 +1,6 @@
+-- The word read is the one tested.
+use borrow.Author.Rules.{rules}
+use Rattle.inputs.proofs.walk.is_word.Goals as goal
+
+pub returns : goal.returns
+returns c = cc

@@ -1,0 +1,7 @@
+-- JUMP 0 leaves 0.
+use borrow.Author.Rules.{rules}
+use Rattle.judge_lookups.proofs.Quick.{shut}
+use Rattle.judge_exec.proofs.exec_quick.jump_taken.Goals as goal
+
+pub returns-then-jump-eq0 : goal.returns-then-jump-eq0
+returns-then-jump-eq0 c = rw (c.if-jump-eq0.true, shut)

@@ -1,0 +1,12 @@
+-- Each eight as `eight_words` promises.
+use borrow.Author.Rules.{rules}
+use Rattle.judge_walks.proofs.thirty_words.Goals as goal
+
+pub returns : goal.returns
+returns c =
+    rw (
+      c.eight_words-4.ensures,
+      c.eight_words-3.ensures,
+      c.eight_words-2.ensures,
+      c.eight_words.ensures,
+    )

@@ -1,0 +1,22 @@
+-- A buffer of another length hears of ANSWER alone; else the judge's answer is replied.
+use borrow.Author.Rules.{rules}
+use mathlib.Core.Path.{◌∙◌}
+use Rattle.answer.specs.declared.Answer.TheVariants.{Buffer}
+use Rattle.uisnabar.specs.Calls.{answer_to}
+use Rattle.reply.proofs.Unfit.{same_returned, same_replied}
+use Rattle.uisnabar.proofs.uisnabar_judge.Goals as goal
+
+pub returns-then-answer-ne24 : goal.returns-then-answer-ne24
+returns-then-answer-ne24 c =
+    let s = c.args in
+    let told = c.reply.ensures in
+    let a = answer_to s.program.now s.memory.now s.pc s.fp s.exec.now s.ext.now in
+    let other = c.if-answer-ne24.true in record {
+      value = told.0 ∙ same_returned s.answer.now other Buffer a;
+      answer_after = told.1 ∙ same_replied s.answer.now other Buffer a;
+    }
+
+pub returns : goal.returns
+returns c =
+    let told = rw c.judge-a.ensures at c.reply-2.ensures in
+    record { value = told.0; answer_after = told.1 }

@@ -1,0 +1,51 @@
+-- `uisnabar_listing::list_call` meets its contract: ANSWER, or what is told.
+use mathlib.Core.Path.{refl, sym, ◌∙◌}
+use borrow.Author.Rules.{rules}
+use borrow.Author.Tests.{not-true, not-false}
+use Rattle.listing_spec.specs.Writing.{listed, listed_in}
+use Rattle.reply.proofs.Telling.{untold, kept, wholes, told, left}
+use Rattle.uisnabar_listing.proofs.CallEnds.{lists_by}
+use Rattle.uisnabar_listing.proofs.list_call.Goals as goal
+
+pub returns-then-not-told_fits : goal.returns-then-not-told_fits
+returns-then-not-told_fits c =
+    let s = c.args in
+    let e = sym c.told_fits.ensures ∙ c.if-not-told_fits.true in
+    let did = listed s.program.now s.text.now in record {
+      value = (lists_by s.program.now s.text.now s.written.now s.answer.now _ _ refl refl
+          (kept s.written.now s.answer.now (listed_in s.program.now s.text.now) s.text.now e)
+          (untold s.written.now s.answer.now did.answer did.written _ e c.misfit.ensures)).0;
+      text_after = (lists_by s.program.now s.text.now s.written.now s.answer.now _ _ refl refl
+          (kept s.written.now s.answer.now (listed_in s.program.now s.text.now) s.text.now e)
+          (untold s.written.now s.answer.now did.answer did.written _ e c.misfit.ensures)).1.0;
+      written_after = (lists_by s.program.now s.text.now s.written.now s.answer.now _ _ refl refl
+          (kept s.written.now s.answer.now (listed_in s.program.now s.text.now) s.text.now e)
+          (untold s.written.now s.answer.now did.answer did.written _ e c.misfit.ensures)).1.1.0;
+      answer_after = (lists_by s.program.now s.text.now s.written.now s.answer.now _ _ refl refl
+          (kept s.written.now s.answer.now (listed_in s.program.now s.text.now) s.text.now e)
+          (untold s.written.now s.answer.now did.answer did.written _ e c.misfit.ensures)).1.1.1;
+    }
+
+pub tell-requires : goal.tell-requires
+tell-requires c =
+    let s = c.args in
+    wholes s.written.now s.answer.now (sym c.told_fits.ensures ∙ c.if-not-told_fits.false)
+
+pub returns : goal.returns
+returns c =
+    let s = c.args in
+    let e = sym c.told_fits.ensures ∙ c.if-not-told_fits.false in
+    let did = c.list-listed in record {
+      value = (lists_by s.program.now s.text.now s.written.now s.answer.now did.result did.new.text did.ensures.0 did.ensures.1
+          (left s.written.now s.answer.now e did.new.text s.text.now)
+          (told s.written.now s.answer.now e did.result.answer did.result.written _ _ _ c.tell.ensures)).0;
+      text_after = (lists_by s.program.now s.text.now s.written.now s.answer.now did.result did.new.text did.ensures.0 did.ensures.1
+          (left s.written.now s.answer.now e did.new.text s.text.now)
+          (told s.written.now s.answer.now e did.result.answer did.result.written _ _ _ c.tell.ensures)).1.0;
+      written_after = (lists_by s.program.now s.text.now s.written.now s.answer.now did.result did.new.text did.ensures.0 did.ensures.1
+          (left s.written.now s.answer.now e did.new.text s.text.now)
+          (told s.written.now s.answer.now e did.result.answer did.result.written _ _ _ c.tell.ensures)).1.1.0;
+      answer_after = (lists_by s.program.now s.text.now s.written.now s.answer.now did.result did.new.text did.ensures.0 did.ensures.1
+          (left s.written.now s.answer.now e did.new.text s.text.now)
+          (told s.written.now s.answer.now e did.result.answer did.result.written _ _ _ c.tell.ensures)).1.1.1;
+    }

@@ -1,0 +1,55 @@
+-- `uisnabar_range::ranges_call` meets its contract: ANSWER, or what is told.
+use mathlib.Core.Path.{refl, sym, ◌∙◌}
+use borrow.Author.Rules.{rules}
+use borrow.Author.Tests.{not-true, not-false}
+use lib.ListN.{length}
+use Rattle.rules.specs.Sizes.{Parts, parts_of}
+use Rattle.range_spec.specs.Finder.{ranges_answer, ranges_found, finds_left}
+use Rattle.reply.proofs.Telling.{untold, kept, wholes, told, left}
+use Rattle.uisnabar_range.proofs.CallEnds.{finds_by}
+use Rattle.uisnabar_range.proofs.ranges_call.Goals as goal
+
+pub returns-then-not-told_fits : goal.returns-then-not-told_fits
+returns-then-not-told_fits c =
+    let s = c.args in
+    let q : Parts = parts_of s.program.now s.memory.now s.pc s.fp s.exec.now s.ext.now in
+    let e = sym c.told_fits.ensures ∙ c.if-not-told_fits.true in
+    let room = length s.finds.now in record {
+      value = (finds_by q s.finds.now s.found.now s.answer.now _ _ _ refl refl refl
+          (kept s.found.now s.answer.now (finds_left q s.finds.now) s.finds.now e)
+          (untold s.found.now s.answer.now (ranges_answer q room) (ranges_found q room) _ e c.misfit.ensures)).0;
+      finds_after = (finds_by q s.finds.now s.found.now s.answer.now _ _ _ refl refl refl
+          (kept s.found.now s.answer.now (finds_left q s.finds.now) s.finds.now e)
+          (untold s.found.now s.answer.now (ranges_answer q room) (ranges_found q room) _ e c.misfit.ensures)).1.0;
+      found_after = (finds_by q s.finds.now s.found.now s.answer.now _ _ _ refl refl refl
+          (kept s.found.now s.answer.now (finds_left q s.finds.now) s.finds.now e)
+          (untold s.found.now s.answer.now (ranges_answer q room) (ranges_found q room) _ e c.misfit.ensures)).1.1.0;
+      answer_after = (finds_by q s.finds.now s.found.now s.answer.now _ _ _ refl refl refl
+          (kept s.found.now s.answer.now (finds_left q s.finds.now) s.finds.now e)
+          (untold s.found.now s.answer.now (ranges_answer q room) (ranges_found q room) _ e c.misfit.ensures)).1.1.1;
+    }
+
+pub tell-requires : goal.tell-requires
+tell-requires c =
+    let s = c.args in
+    wholes s.found.now s.answer.now (sym c.told_fits.ensures ∙ c.if-not-told_fits.false)
+
+pub returns : goal.returns
+returns c =
+    let s = c.args in
+    let q : Parts = parts_of s.program.now s.memory.now s.pc s.fp s.exec.now s.ext.now in
+    let e = sym c.told_fits.ensures ∙ c.if-not-told_fits.false in
+    let did = c.find_ranges-ranged in record {
+      value = (finds_by q s.finds.now s.found.now s.answer.now did.result.answer did.result.found did.new.finds did.ensures.0 did.ensures.1 did.ensures.2
+          (left s.found.now s.answer.now e did.new.finds s.finds.now)
+          (told s.found.now s.answer.now e did.result.answer did.result.found _ _ _ c.tell.ensures)).0;
+      finds_after = (finds_by q s.finds.now s.found.now s.answer.now did.result.answer did.result.found did.new.finds did.ensures.0 did.ensures.1 did.ensures.2
+          (left s.found.now s.answer.now e did.new.finds s.finds.now)
+          (told s.found.now s.answer.now e did.result.answer did.result.found _ _ _ c.tell.ensures)).1.0;
+      found_after = (finds_by q s.finds.now s.found.now s.answer.now did.result.answer did.result.found did.new.finds did.ensures.0 did.ensures.1 did.ensures.2
+          (left s.found.now s.answer.now e did.new.finds s.finds.now)
+          (told s.found.now s.answer.now e did.result.answer did.result.found _ _ _ c.tell.ensures)).1.1.0;
+      answer_after = (finds_by q s.finds.now s.found.now s.answer.now did.result.answer did.result.found did.new.finds did.ensures.0 did.ensures.1 did.ensures.2
+          (left s.found.now s.answer.now e did.new.finds s.finds.now)
+          (told s.found.now s.answer.now e did.result.answer did.result.found _ _ _ c.tell.ensures)).1.1.1;
+    }

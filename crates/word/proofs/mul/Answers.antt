@@ -1,0 +1,13 @@
+-- `word::mul` meets its contract: the product of two numbers of 32 bits fits 64, and is reduced.
+-- Assumes nothing.
+use borrow.Author.Rules.{rules}
+use Rattle.word.specs.Word.{◌*ₚ◌}
+use Rattle.word.proofs.Width.{below}
+use Rattle.word.proofs.mul.Goals as goal
+
+pub overflow_mul-wide : goal.overflow_mul-wide
+overflow_mul-wide c = record { fits = below 32 (search rules) (search rules) }
+
+pub returns : goal.returns
+unfolding ◌*ₚ◌
+returns c = cc
