@@ -3,30 +3,48 @@
   mutants.py            all of them
   mutants.py NAME..     those of these crates
 
-In a scratch copy under target/, where they stand as must-fail edits; prints a line for each as it is tried, names
-those that are refused for no fact (tools/hollow), and ends in 'N passed, M failed'."""
+In a scratch copy outside the checkout, since rt ci takes no sources below target/, where they stand as must-fail edits
+of crates that are proved; prints a line for each, names those that are refused for no fact (tools/hollow), and ends in
+'N passed, M failed'."""
 import pathlib
-import re
 import shutil
 import subprocess
 import sys
+import tempfile
 
 ROOT = pathlib.Path(__file__).resolve().parent.parent
-SCRATCH = ROOT / "target/mutants"
-WARM = ("rlib", "stamp", "log")  # what rt keeps of crates that are proved
 
 
-def prepare(names):
+def prepare(names, scratch):
     """A copy of the repository's crates with the mutants of these in the place of all must-fail edits. How many they are."""
-    shutil.rmtree(SCRATCH, ignore_errors=True)
-    shutil.copytree(ROOT / "crates", SCRATCH / "crates", ignore=shutil.ignore_patterns("must-fail", "mutants"))
-    shutil.copy(ROOT / "crates.txt", SCRATCH)
-    for kept in WARM:
-        if (ROOT / "target" / kept).is_dir():
-            shutil.copytree(ROOT / "target" / kept, SCRATCH / "target" / kept)
+    shutil.copytree(ROOT / "crates", scratch / "crates", ignore=shutil.ignore_patterns("must-fail", "mutants", "out"))
+    shutil.copy(ROOT / "crates.txt", scratch)
     for name in names:
-        shutil.copytree(ROOT / "crates" / name / "mutants", SCRATCH / "crates" / name / "must-fail")
-    return sum(1 for _ in SCRATCH.glob("crates/*/must-fail/*.edit"))
+        shutil.copytree(ROOT / "crates" / name / "mutants", scratch / "crates" / name / "must-fail")
+    return sum(1 for _ in scratch.glob("crates/*/must-fail/*.edit"))
+
+
+def tried(names, scratch):
+    """Tries the mutants of the copy: whether all of them are refused, and each for a fact."""
+    count = prepare(names, scratch)
+    print(f"{count} mutants of {len(names)} crates; what is not proved yet is proved first", flush=True)
+    for name in names:
+        proved = subprocess.run(["rt", "check"], cwd=scratch / "crates" / name, stdout=subprocess.PIPE, stderr=subprocess.STDOUT, text=True)
+        if proved.returncode != 0:
+            sys.exit(proved.stdout[-2000:] + f"\n{name} is not proved as it stands")
+    number = passed = 0
+    said = scratch / "said"
+    with said.open("w") as log:
+        with subprocess.Popen(["rt", "must-fail", *names], cwd=scratch, stdout=subprocess.PIPE, stderr=subprocess.STDOUT, text=True) as run:
+            for line in run.stdout:
+                log.write(line)
+                if line.startswith("rt: must-fail "):
+                    number += 1
+                    passed += ": refused" in line
+                    print(f"{number} of {count} mutants: {line.removeprefix('rt: ').strip()[:200]}", flush=True)
+    hollow = subprocess.run([ROOT / "tools/hollow", said], check=False).returncode
+    print(f"{passed} passed, {count - passed} failed")
+    return not hollow and passed == count
 
 
 def main(argv):
@@ -37,18 +55,8 @@ def main(argv):
     names = [name for name in has if name in argv[1:] or not argv[1:]]
     if not names:
         sys.exit(f"no mutants of {' '.join(argv[1:])}")
-    count = prepare(names)
-    print(f"{count} mutants of {len(names)} crates; what is not proved yet is proved first", flush=True)
-    tried = passed = 0
-    with subprocess.Popen(["rt", "must-fail", *names], cwd=SCRATCH, stdout=subprocess.PIPE, stderr=subprocess.STDOUT, text=True) as run:
-        for line in run.stdout:
-            if re.match(r"rt: (must-fail|\w+ NOT PROVED)", line):
-                tried += "must-fail" in line
-                passed += ": refused" in line
-                print(f"{tried} of {count} mutants: {line.removeprefix('rt: ').strip()[:200]}", flush=True)
-    hollow = subprocess.run([ROOT / "tools/hollow", SCRATCH / "target/must-fail"], check=False).returncode
-    print(f"{passed} passed, {count - passed} failed")
-    return 1 if hollow or passed != count else 0
+    with tempfile.TemporaryDirectory(prefix="uisnabar-mutants-") as scratch:
+        return 0 if tried(names, pathlib.Path(scratch)) else 1
 
 
 sys.exit(main(sys.argv))
