@@ -44,7 +44,7 @@ def definitions(text):
 
 def reads(body, known):
     """The fields that a definition reads: pairs of x, y or i and the field's name."""
-    fields = set(re.findall(r"\b([ixy]) \.(\w+)", body))
+    fields = set(re.findall(r"\b([ixy])\.(\w+)", body))
     for name, inner in known.items():
         if re.search(rf"(?<![\w.ν]){re.escape(name)} [ixy]", body):
             fields |= reads(inner, known)
@@ -60,7 +60,7 @@ def columns(body, known, order):
     said += [INSTRUCTION + ", ".join(words)] if words else []
     said += [NEXT + ", ".join(following)] if following else []
     said += ["the program's length"] if ".count" in body else []
-    said += [MEMORY + "five cells"] if "looksUpFive" in body else [MEMORY + "the cell"] if "looksUp" in body else []
+    said += [MEMORY + "five cells"] if "looks_up_five" in body else [MEMORY + "the cell"] if "looks_up" in body else []
     return "; ".join(said)
 
 
@@ -232,8 +232,8 @@ def named_definitions():
 
 
 def main():
-    faults = [*against_specs("Execution rules", "Execution.antt", "execRules", EXEC, sentences("execution")),
-              *against_specs("Extension rules", "Extension.antt", "extRules", EXT, sentences("extension")),
+    faults = [*against_specs("Execution rules", "Execution.antt", "exec_rules", EXEC, sentences("execution")),
+              *against_specs("Extension rules", "Extension.antt", "ext_rules", EXT, sentences("extension")),
               *label_lines(), *layouts(), *forms(), *named_definitions()]
     faults += [] if faults else dict.fromkeys(formulas())
     print("\n".join(faults) or "docs/VERDICTS.md has every rule as it is")

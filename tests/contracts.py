@@ -3,7 +3,7 @@
 Public means exported from its crate. An entry, one of ENTRIES, is what a program, a C call or a customer hands bytes to: it has no `requires`.
 Every other public function is inner: it may have a `requires`, which each caller proves. Of both kinds the promise is an equation for the answer
 (of a struct: for the whole, or for each field, where a record of specs/ that is equations of its parameters counts as these) and one for
-each lent buffer's exit. A promise that is none is named in docs/EXCEPTIONS.md, in backquotes
+what each lent buffer holds at return, its `new`. The facts of a promise are its `ensures` clauses, and in one what `×` joins. A promise that is none is named in docs/EXCEPTIONS.md, in backquotes
 at a line's start, and argued for there; a name there that needs no excuse is a fault too. What no other crate needs is `pub(crate)`."""
 import pathlib
 import re
@@ -17,15 +17,21 @@ grid::fresh grid::count grid_report::report edition::translate listing_writer::l
 range::find_ranges split::judge_split
 uisnabar::uisnabar_judge uisnabar::uisnabar_label uisnabar::uisnabar_count uisnabar::uisnabar_report
 uisnabar::uisnabar_translate uisnabar::uisnabar_list uisnabar::uisnabar_read_listing uisnabar::uisnabar_jump
-uisnabar::uisnabar_host uisnabar::uisnabar_ranges uisnabar::uisnabar_judge_split replay::replay table::table_label
+uisnabar::uisnabar_host uisnabar::uisnabar_ranges uisnabar::uisnabar_judge_split
+uisnabar_c::uisnabar_judge uisnabar_c::uisnabar_label uisnabar_c::uisnabar_count uisnabar_c::uisnabar_report
+uisnabar_c::uisnabar_translate uisnabar_c::uisnabar_list uisnabar_c::uisnabar_read_listing uisnabar_c::uisnabar_jump
+uisnabar_c::uisnabar_host uisnabar_c::uisnabar_ranges uisnabar_c::uisnabar_judge_split replay::replay table::table_label
 test_probe::probe_table test_probe::probe_make test_probe::probe_write
 """.split())
 FUNCTION = re.compile(r"^(\s*)pub (?:extern \"C\" )?fn (\w+)")
-EXPORT = re.compile(r"^pub use [\w:]*?(\w+);$", re.M)
+EXPORT = re.compile(r"^pub use ([^;]+);", re.M)
 EXCEPTION = re.compile(r"^- `([\w:]+)`", re.M)
 STRUCT = re.compile(r"^(?:pub )?struct (\w+) \{\n(.*?)^\}", re.M | re.S)
 RECORD = re.compile(r"^pub record (\w+) (.*?) : Type 0 where\n((?:  .*\n)+)", re.M)
-CLAUSE = re.compile(r"^\s*(requires|ensures) \{(.*?)\}\s*$(?=\s*(?:requires|ensures|\{|\Z))", re.M | re.S)
+CLAUSE = re.compile(r"^\s*(requires|ensures)(?: \w+)? \{", re.M)
+# a fact that holds only where another does
+CONDITIONAL = re.compile(r"→|∨|⊎|\b(?:If|On)(?:Ok|Err|Some|None)\b")
+OPEN, CLOSED = "([{", ")]}"
 
 
 def functions(text):
@@ -45,6 +51,50 @@ def functions(text):
             yield owner + found[2], "\n".join(lines[at:end] + [lines[end].rstrip("{")])
 
 
+def parts(text, at_sign):
+    """A text cut where the sign stands outside of all brackets."""
+    found, depth = [""], 0
+    for sign in text:
+        depth += (sign in OPEN) - (sign in CLOSED)
+        if sign == at_sign and depth == 0:
+            found.append("")
+        else:
+            found[-1] += sign
+    return [" ".join(part.split()) for part in found if part.split()]
+
+
+def bare(fact):
+    """A fact without the brackets around the whole of it."""
+    while fact.startswith("(") and closes(fact):
+        fact = fact[1:-1].strip()
+    return fact
+
+
+def closes(fact):
+    """Whether the first bracket is closed by the last."""
+    depth = 0
+    for at, sign in enumerate(fact):
+        depth += (sign in OPEN) - (sign in CLOSED)
+        if depth == 0:
+            return at == len(fact) - 1
+    return False
+
+
+def clauses(contract):
+    """The kind and the body of each clause, up to the brace that closes it."""
+    for found in CLAUSE.finditer(contract):
+        depth, end = 1, found.end()
+        while depth:
+            depth += (contract[end] == "{") - (contract[end] == "}")
+            end += 1
+        yield found[1], contract[found.end():end - 1]
+
+
+def exports(library):
+    """The names that a crate hands on from its modules."""
+    return {name.strip().split("::")[-1] for path in EXPORT.findall(library) for name in re.sub(r".*\{|\}", "", path, flags=re.S).split(",")}
+
+
 def structs():
     """The fields of each struct, by its name: of two of one name, those of both."""
     fields = {}
@@ -55,48 +105,49 @@ def structs():
 
 
 def records():
-    """The records of specs/ whose every field is an equation for another of their parameters."""
-    found = set()
+    """The records of specs/ whose every field is an equation for another of their parameters: which of these are equated, in order."""
+    found = {}
     for spec in ROOT.glob("crates/*/specs/*.antt"):
         for name, parameters, body in RECORD.findall(spec.read_text()):
             named = [one for group in re.findall(r"\(([^:()]+):", parameters) for one in group.split()]
             said = re.findall(r"^ +pub [\w-]+ : (.*)$", body, re.M)
             sides = [re.match(r"(\w+) ≡ ", fact) for fact in said]
-            if said and all(side and side[1] in named for side in sides) and len({side[1] for side in sides}) == len(said):
-                found.add(name)
+            equated = {side[1] for side in sides if side}
+            if said and all(side and side[1] in named for side in sides) and len(equated) == len(said):
+                found[name] = [one in equated for one in named]
     return found
 
 
-def determines(promise, returned, fields, equations):
-    """Whether the promise has an equation for an answer of this type."""
-    for binder, fact in re.findall(r"λ (\w+)\.(.*?)(?=λ \w+\. (?:do )?⌜|\Z)", promise, re.S):
-        if re.search(rf"(?:^|[\s(⌜])(?:\w+ {binder}|cond {binder} 1 0|{binder}) ≡", fact):
+def determines(facts, returned, fields, equations):
+    """Whether the facts have an equation for an answer of this type."""
+    given = set()
+    for fact in facts:
+        if re.match(r"(?!length )(?:\w+ result|cond result 1 0|result) ≡ ", fact):
             return True
-        given = set(re.findall(rf"\b{binder} \.«?(\w+)»? ≡", fact))
-        for name in equations:
-            for use in re.findall(rf"\b{name} [^×]*", fact):
-                given |= set(re.findall(rf"\({binder} \.«?(\w+)»?\)", use))
-        if fields.get(returned) and fields[returned] <= given:
-            return True
-    return False
+        given |= set(re.findall(r"^result\.«?(\w+)»? ≡ ", fact))
+        name, *arguments = parts(fact, " ")
+        for argument, is_equated in zip(arguments, equations.get(name, ())):
+            given |= set(re.findall(r"^result\.«?(\w+)»?$", argument)) if is_equated else set()
+    return bool(fields.get(returned)) and fields[returned] <= given
 
 
 def faults_of(contract, fields, equations):
     """What the promise leaves open."""
-    signature = re.split(r"^\s*(?:requires|ensures) ", contract, maxsplit=1, flags=re.M)[0]
-    promise = "\n".join(body for kind, body in CLAUSE.findall(contract) if kind == "ensures")
+    signature = CLAUSE.split(contract, maxsplit=1)[0]
+    promise = [body for kind, body in clauses(contract) if kind == "ensures"]
     returned = re.search(r"\) -> (\S.*?)\s*$", signature.strip())
     if not promise:
         yield "has no promise"
         return
-    if "→" in promise:
+    if any(CONDITIONAL.search(body) for body in promise):
         yield "promises something only where something else holds"
         return
-    if returned and not determines(promise, returned[1], fields, equations):
+    facts = [bare(fact) for body in promise for fact in parts(body, "×")]
+    if returned and not determines(facts, returned[1], fields, equations):
         yield "has no equation for its answer"
-    for lent in re.findall(r"(\w+): &(?:'\w+ )?mut ", signature):
-        if not re.search(rf"now \({lent} \.exit\) ≡", promise):
-            yield f"has no equation for {lent} at return"
+    for lent in re.findall(r"(\w+): &(?:'\w+ )?mut |&(?:'\w+ )?mut (self)", signature):
+        if not any(fact.startswith(f"{''.join(lent)}.new ≡ ") for fact in facts):
+            yield f"has no equation for {''.join(lent)} at return"
 
 
 def main():
@@ -105,14 +156,14 @@ def main():
     for source in sorted(ROOT.glob("crates/*/src/**/*.rt")):
         crate = source.relative_to(ROOT / "crates").parts[0]
         library = ROOT / "crates" / crate / "src/lib.rt"
-        exported = set(EXPORT.findall(library.read_text())) if library.exists() else set()
+        exported = exports(library.read_text()) if library.exists() else set()
         for name, contract in functions(source.read_text()):
             whole = f"{crate}::{name}"
             seen.add(whole)
             if source.name != "lib.rt" and name not in exported and whole not in ENTRIES:
                 faults.append(f"{whole} is public, and no other crate can reach it: pub(crate)")
                 continue
-            if whole in ENTRIES and re.search(r"^\s*requires ", contract, re.M):
+            if whole in ENTRIES and any(kind == "requires" for kind, _ in clauses(contract)):
                 faults.append(f"{whole} is an entry and has a requires")
             open_ends = list(faults_of(contract, fields, equations))
             if open_ends and whole in excused:

@@ -50,26 +50,32 @@ same() {
     "$@" | cmp - "$file"
 }
 
-# counted: what rt ci prints, with the number of each proof and each edit
+# counted: what rt ci prints, with the number of each crate and each edit; when each crate was done is kept
 counted() {
-    local line proved=0 tried=0 crates edits
+    local line ready=0 tried=0 crates edits began=$SECONDS
     crates=$(grep -c '^[a-z]' crates.txt)
-    edits=$(find crates -path '*/must-fail/*.edit' | wc -l)
+    edits=$(edits)
     while IFS= read -r line; do
-        case $line in
-            "rt: must-fail "*) line+=" [edit $((++tried)) of $edits]" ;;
-            "rt: "*" proved ("*) line+=" [proof $((++proved)) of $crates]" ;;
-        esac
+        if [[ $line =~ ^rt:\ ([A-Za-z0-9_]+)\ (proved$|NOT\ PROVED|is\ kept:) ]]; then
+            printf '%s\t%d\t%s\n' "${BASH_REMATCH[1]}" $((SECONDS - began)) "${BASH_REMATCH[2]}" >>"$gate_scratch/crates"
+            line+=" [crate $((++ready)) of $crates]"
+        elif [[ $line = "rt: must-fail "* ]]; then
+            line+=" [edit $((++tried)) of $edits]"
+        fi
         printf '%s\n' "$line"
     done
 }
 
-# proofs: rt ci removes target/, so what it prints is put there when it ends
+# edits: how many edits the prover must refuse
+edits() { find crates -path '*/must-fail/*.edit' | wc -l; }
+
+# proofs: the checkout as it is, and nothing before it; what rt ci prints stays in target/gate
 proofs() {
-    local last
-    rt ci 2>&1 | tee "$gate_scratch/ci.log" | counted || true
+    local status=0 last
+    touch "$gate_scratch/began" "$gate_scratch/crates"
+    rt ci 2>&1 | tee "$gate_scratch/ci.log" | counted || status=${PIPESTATUS[0]}
     mkdir -p target/gate
-    cp "$gate_scratch/ci.log" target/gate/
+    cp "$gate_scratch/ci.log" "$gate_scratch/crates" target/gate/
     last=$(tail -n 1 target/gate/ci.log)
     if [[ $last =~ ^([0-9]+)\ passed,\ ([0-9]+)\ failed$ ]]; then
         passed=$((passed + BASH_REMATCH[1]))
@@ -78,6 +84,31 @@ proofs() {
         echo "FAILED: rt ci gave no count"
         failed=$((failed + 1))
     fi
+    check "rt ci ended well, with every edit refused and none bad" ended_well "$status"
+    check "every edit is refused for a fact" tools/hollow
+    [ "$status" != 0 ] || check "the programs that rt ci built are those run below" taken
+}
+
+# taken: the programs that rt ci built, at the time at which it began
+taken() {
+    local program
+    for program in replay table; do
+        placed "crates/$program/out/$program" "target/bin/$program" "$gate_scratch/began" || return
+    done
+}
+
+# ended_well STATUS: that is 0, and the line with which rt ci ends tells as many edits refused as there are, and none bad
+ended_well() {
+    local ok
+    [ "$1" = 0 ] || { echo "rt ci ended with status $1"; return 1; }
+    ok=$(grep '^rt: ok' target/gate/ci.log) || { echo "rt ci does not say that all is well"; return 1; }
+    if [[ $ok =~ ,\ ([1-9][0-9]*)\ bad ]]; then
+        echo "must-fail edits that are bad, and show nothing: ${BASH_REMATCH[1]}"
+        grep 'BAD EDIT' target/gate/ci.log
+        return 1
+    fi
+    [[ $ok =~ must-fail\ edits:\ ([0-9]+)\ refused ]] && [ "${BASH_REMATCH[1]}" = "$(edits)" ] ||
+        { echo "there are $(edits) must-fail edits, and of those that were refused rt ci says: $ok"; return 1; }
 }
 
 # driver: an example in C judges what the table program writes
@@ -108,10 +139,17 @@ endless() {
         cmp - <(printf 'verdict=8\npart=0\nplace=0\nrule=0\nexpected=0\nfound=0\n')
 }
 
+# input that cannot be read counts as ended, and output that cannot be written is no failure of a program's
+failing() {
+    local said
+    run replay </ | cmp - <(printf 'verdict=8\npart=0\nplace=0\nrule=0\nexpected=0\nfound=0\n') &&
+        said=$(run table </) && [ -z "$said" ] && run replay </dev/null >/dev/full
+}
+
 # the command, under the emulator where programs need it
 cli_test() {
     local emulator=()
-    [ "$(uname -m)" = x86_64 ] || emulator=("$(toolchain)/bin/qemu-x86_64")
+    [ "$(uname -m)" = x86_64 ] || emulator=(qemu-x86_64)
     cli && python3 tests/cli.py "${emulator[@]}" target/cli/uisnabar
 }
 
@@ -141,8 +179,7 @@ splits() {
 }
 
 page_checks() {
-    stage "layout, contracts, pages"
-    check "layout (rt fmt --check)" rt fmt --check
+    stage "contracts, pages"
     check "every public function's contract determines its answer and each lent byte" python3 tests/contracts.py
     check "the pages: wings as they are, widths, what each definition is for" python3 tests/pages.py
     check "docs/VERDICTS.md has every rule as it is" python3 tests/cli_page.py
@@ -168,6 +205,7 @@ run_checks() {
     check "the shelf, replayed" shelf shelf
     check "document 01's example, byte for byte" same shelf/refused-n-125.answer run replay <shelf/refused-n-125.label
     check "endless input is answered" endless
+    check "failing input is answered" failing
     check "an example driver in C" driver
     if [ "$(uname -m)" = x86_64 ] && command -v rustc >/dev/null; then
         check "an example driver in Rust" rust_driver
@@ -196,16 +234,15 @@ gate() {
     need_compiler
     gate_scratch=$(mktemp -d)
     trap 'rm -rf "$gate_scratch"' EXIT
+    if [ "${1:-}" = --quick ]; then
+        stage "layout, proofs of what changed (rt all test)"
+        check "all is laid out, what changed is proved, and programs print what they must" rt all test
+    else
+        stage "layout, proofs, edits, programs (rt ci)"
+        proofs
+    fi
     page_checks
     value_checks
-    if [ "${1:-}" = --quick ]; then
-        stage "proofs of what changed (rt check)"
-        check "what changed is proved, and programs print what they must" rt check
-    else
-        stage "proofs, edits, programs (rt ci)"
-        proofs
-        check "every edit is refused for a fact" tools/hollow
-    fi
     run_checks
     stage
     stage_times

@@ -13,7 +13,7 @@ import sys
 ROOT = pathlib.Path(__file__).resolve().parent.parent
 WIDTH = 120
 CITES = re.compile(r"document 0[12]|draft 0\.[56]\.0|demand|mission", re.I)
-DECLARED = re.compile(r"^use Rattle·(\w+?)(?:·specs)?\.specs\.declared\.(\w+)[.{]", re.M)
+DECLARED = re.compile(r"^use Rattle\.(\w+)\.specs\.declared\.(\w+)[.{]", re.M)
 LINE = "-- Declared in src/: "
 EDITS, END = "<!-- written by tests/pages.py -->\n", "<!-- end -->\n"
 
@@ -28,7 +28,7 @@ def prose():
 
 
 def comments():
-    for source in sorted(ROOT.glob("crates/**/*")):
+    for source in sorted(source for part in ("src", "specs", "proofs") for source in ROOT.glob(f"crates/*/{part}/**/*")):
         if source.suffix in (".rt", ".antt") and source.is_file():
             for number, line in enumerate(source.read_text().splitlines(), 1):
                 if len(line) > WIDTH and line.lstrip().startswith(("--", "//")):
@@ -106,7 +106,7 @@ def edits(write):
     start = text.index(EDITS) + len(EDITS)
     end = text.index(END, start)
     rows = ["| Crate | In the gate | By `./bench mutate` |", "|---|---|---|"]
-    for crate in re.findall(r"^(\w+):", (ROOT / "crates.txt").read_text(), re.M):
+    for crate in re.findall(r"^(\w+)(?: staticlib)?:", (ROOT / "crates.txt").read_text(), re.M):
         kinds = [sorted(edit.stem for edit in (ROOT / "crates" / crate / kind).glob("*.edit")) for kind in ("must-fail", "mutants")]
         if any(kinds):
             rows.append(f"| `{crate}` | " + " | ".join(", ".join(f"`{name}`" for name in names) for names in kinds) + " |")
@@ -119,17 +119,20 @@ def edits(write):
 
 
 def fitting():
-    """Every edit still fits the code that it is to spoil."""
+    """Every edit still fits the code that it is to spoil: each text stands there once, as rt wants it."""
     for edit in sorted(ROOT.glob("crates/*/m*/*.edit")):
-        texts = {}
+        texts, name, old = {}, "", ""
         for key, value in re.findall(r"^(file|old|new): ?(.*)$", edit.read_text(), re.M):
             if key == "file":
                 name = edit.parts[-3] + "/" + value
-                texts.setdefault(name, (ROOT / "crates" / name).read_text())
+                file = ROOT / "crates" / name
+                if not file.is_file():
+                    yield f"{edit.relative_to(ROOT)}: there is no {name}"
+                texts.setdefault(name, file.read_text() if file.is_file() else "")
             elif key == "old":
                 old = value
-                if old not in texts[name]:
-                    yield f"{edit.relative_to(ROOT)}: {old} is not in {name}"
+                if texts[name].count(old) != 1:
+                    yield f"{edit.relative_to(ROOT)}: {old} is in {name} {texts[name].count(old)} times"
             else:
                 texts[name] = texts[name].replace(old, value)
 

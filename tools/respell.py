@@ -9,7 +9,7 @@ import os
 import re
 import sys
 
-DECLARED = re.compile(r"^( {0,4})(?:(?:abbrev|unfoldable|pub)\s+)*([^\s(){}.,;:=]+)\s*:\s")
+DECLARED = re.compile(r"^( {0,8})(?:(?:abbrev|unfoldable|pub)\s+)*([^\s(){}.,;:=]+)\s*:\s")
 FIELD = re.compile(r"^\s*(?:pub(?:\([a-z]+\))?\s+)?([a-z]\w*): [^=]*,$", re.M)
 WORD = r"\w\-'?"
 
@@ -43,6 +43,19 @@ def declared():
     return found
 
 
+def record_fields(text):
+    inside = None
+    for line in text.split("\n"):
+        start = re.match(r"(\s*)(?:pub )?record [^=]*where$", line)
+        if start:
+            inside = len(start[1])
+        elif inside is not None and line.strip() and len(line) - len(line.lstrip()) <= inside:
+            inside = None
+        field = inside is not None and re.match(r"\s*(?:pub )?([^\s(){}]+) :", line)
+        if field:
+            yield field[1]
+
+
 def snake(name, kept):
     parts = []
     for part in name.split("-"):
@@ -74,13 +87,31 @@ def main():
     each = "|".join(re.escape(n) for n in sorted(turned, key=len, reverse=True))
     name = re.compile(rf"(?<![{WORD}◌ₚₑ])({each})(?![{WORD}◌ₚₑ])")
 
+    fields = {}
+    for path in files("crates", ".antt"):
+        for field in record_fields(read(path)):
+            fields.setdefault(field, set()).add(path)
+
     def one(match):
-        before = match.string[match.start() - 1:match.start()]
-        return turned[match[0]] + ("_lem" if match[0] in lemmas and before != "." else "")
+        word, text = match[0], match.string
+        if word == "exec-lookups" and "/mission/" in path and re.match(" [:=]", text[match.end():match.end() + 2]):
+            # later fields of the same record speak of the function exec_lookups
+            return "execution_lookups"
+        field = path in fields.get(word, ()) and text[match.end():match.end() + 2] == " :"
+        literal = word in fields and re.search(r"(?:[{;]|\n)\s*$", text[:match.start()]) and text[match.end():match.end() + 3] == " = "
+        after = text[match.start() - 1:match.start()] == "."
+        return turned[word] + ("_lem" if word in lemmas and not (field or literal or after) else "")
+
+    def prose(match):
+        # in a comment words that are joined by a dash are English
+        return match[0] if "-" in match[0] else one(match)
 
     for path in files("crates", (".rt", ".antt", ".edit")):
         text = read(path)
-        new = name.sub(one, text)
+        new = "".join(
+            name.sub(prose if re.match(r"\s*(--|//|# )", line) else one, line)
+            for line in text.splitlines(keepends=True)
+        )
         if new != text:
             with open(path, "w", encoding="utf-8") as file:
                 file.write(new)
