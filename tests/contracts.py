@@ -2,8 +2,10 @@
 
 Public means exported from its crate. An entry, one of ENTRIES, is what a program, a C call or a customer hands bytes to: it has no `requires`.
 Every other public function is inner: it may have a `requires`, which each caller proves. Of both kinds the promise is an equation for the answer
-(of a struct: for the whole, or for each field, where a record of specs/ that is equations of its parameters counts as these) and one for
-what each lent buffer holds at return, its `new`. The facts of a promise are its `ensures` clauses, and in one what `×` joins. A promise that is none is named in docs/EXCEPTIONS.md, in backquotes
+(of a struct: for the whole, or for each field, where a record of specs/ that is equations of its parameters counts as these; of a Result: for
+its answer and for its number) and one for what each lent buffer holds at return, its `new`. A relation of specs/ of which a lemma shows that
+no two values meet it counts as an equation for its last argument. The facts of a promise are its `ensures` clauses, and in one what `×` joins;
+what holds only where something else does counts for nothing. A promise that is none is named in docs/EXCEPTIONS.md, in backquotes
 at a line's start, and argued for there; a name there that needs no excuse is a fault too. What no other crate needs is `pub(crate)`."""
 import pathlib
 import re
@@ -26,8 +28,10 @@ test_probe::probe_table test_probe::probe_make test_probe::probe_write
 FUNCTION = re.compile(r"^(\s*)pub (?:extern \"C\" )?fn (\w+)")
 EXPORT = re.compile(r"^pub use ([^;]+);", re.M)
 EXCEPTION = re.compile(r"^- `([\w:]+)`", re.M)
-STRUCT = re.compile(r"^(?:pub )?struct (\w+) \{\n(.*?)^\}", re.M | re.S)
+STRUCT = re.compile(r"^(?:pub )?struct (\w+)(?:<[^>]*>)? \{\n(.*?)^\}", re.M | re.S)
 RECORD = re.compile(r"^pub record (\w+) (.*?) : Type 0 where\n((?:  .*\n)+)", re.M)
+# a lemma that two values which meet a relation are one
+ONE = re.compile(r"^pub [\w-]+ : .*→ (\w+)((?: \w+)*) r → (\w+)((?: \w+)*) s → r ≡ s$", re.M)
 CLAUSE = re.compile(r"^\s*(requires|ensures)(?: \w+)? \{", re.M)
 # a fact that holds only where another does
 CONDITIONAL = re.compile(r"→|∨|⊎|\b(?:If|On)(?:Ok|Err|Some|None)\b")
@@ -39,8 +43,8 @@ def functions(text):
     owner = ""
     lines = text.splitlines()
     for at, line in enumerate(lines):
-        if line.startswith("impl "):
-            owner = line.split()[1] + "::"
+        if re.match(r"impl\b", line):
+            owner = re.match(r"impl(?:<[^>]*>)? (?:.* for )?(\w+)", line)[1] + "::"
         elif line == "}":
             owner = ""
         found = FUNCTION.match(line)
@@ -104,34 +108,60 @@ def structs():
     return fields
 
 
-def records():
-    """The records of specs/ whose every field is an equation for another of their parameters: which of these are equated, in order."""
+def records(fields):
+    """The records of specs/ whose every field is an equation for a parameter, or for a field of one: which are equated whole, in order."""
     found = {}
     for spec in ROOT.glob("crates/*/specs/*.antt"):
         for name, parameters, body in RECORD.findall(spec.read_text()):
-            named = [one for group in re.findall(r"\(([^:()]+):", parameters) for one in group.split()]
+            typed = {one: kind.strip() for group, kind in re.findall(r"\(([^:()]+):([^()]*)\)", parameters) for one in group.split()}
             said = re.findall(r"^ +pub [\w-]+ : (.*)$", body, re.M)
-            sides = [re.match(r"(\w+) ≡ ", fact) for fact in said]
-            equated = {side[1] for side in sides if side}
-            if said and all(side and side[1] in named for side in sides) and len(equated) == len(said):
-                found[name] = [one in equated for one in named]
+            sides = [re.match(r"(?:length )?(\w+)(?:\.(\w+)[.\w]*)? ≡ ", fact) for fact in said]
+            told = [side for side, fact in zip(sides, said) if side and not re.match(r"length |[\w.]+\.ghost_name ", fact)]
+            if not said or not all(side and side[1] in typed for side in sides):
+                continue
+            whole = {side[1] for side in told if not side[2]}
+            part = {one: {side[2] for side in told if side[1] == one} for one in typed}
+            found[name] = [one in whole or bool(fields.get(kind)) and fields[kind] <= part[one] for one, kind in typed.items()]
     return found
 
 
-def determines(facts, returned, fields, equations):
+def relations():
+    """The relations of specs/ that one value alone meets, by a lemma of specs/ or proofs/."""
+    return {
+        first
+        for folder in ("specs", "proofs")
+        for source in ROOT.glob(f"crates/*/{folder}/**/*.antt")
+        for first, given, second, again in ONE.findall(source.read_text())
+        if (first, given) == (second, again)
+    }
+
+
+def determines(facts, returned, fields, equations, ones):
     """Whether the facts have an equation for an answer of this type."""
-    given = set()
+    given, sides = set(), set()
     for fact in facts:
-        if re.match(r"(?!length )(?:\w+ result|cond result 1 0|result) ≡ ", fact):
+        if re.match(r"(?!length |answer_of |number_of )(?:\w+ result|cond result 1 0|result) ≡ ", fact) or fact.endswith(" ≡ Some result"):
             return True
-        given |= set(re.findall(r"^result\.«?(\w+)»? ≡ ", fact))
+        if fact.split()[0] in ones and fact.endswith(" result"):
+            return True
+        sides |= set(re.findall(r"^(answer_of|number_of) result ≡ ", fact))
+        if sides == {"answer_of", "number_of"}:
+            return True
+        given |= set(re.findall(r"^(?:drawn_number )?result\.«?(\w+)»? ≡ ", fact))
         name, *arguments = parts(fact, " ")
         for argument, is_equated in zip(arguments, equations.get(name, ())):
             given |= set(re.findall(r"^result\.«?(\w+)»?$", argument)) if is_equated else set()
     return bool(fields.get(returned)) and fields[returned] <= given
 
 
-def faults_of(contract, fields, equations):
+def lent_at_return(fact, buffer, equations):
+    """Whether a fact is an equation for what a buffer holds at return."""
+    name, *arguments = parts(fact, " ")
+    equated = [argument for argument, is_equated in zip(arguments, equations.get(name, ())) if is_equated]
+    return fact.startswith(f"{buffer}.new ≡ ") or f"{buffer}.new" in equated
+
+
+def faults_of(contract, fields, equations, ones):
     """What the promise leaves open."""
     signature = CLAUSE.split(contract, maxsplit=1)[0]
     promise = [body for kind, body in clauses(contract) if kind == "ensures"]
@@ -139,20 +169,18 @@ def faults_of(contract, fields, equations):
     if not promise:
         yield "has no promise"
         return
-    if any(CONDITIONAL.search(body) for body in promise):
-        yield "promises something only where something else holds"
-        return
-    facts = [bare(fact) for body in promise for fact in parts(body, "×")]
-    if returned and not determines(facts, returned[1], fields, equations):
+    facts = [bare(fact) for body in promise if not CONDITIONAL.search(body) for fact in parts(body, "×")]
+    if returned and not determines(facts, returned[1], fields, equations, ones):
         yield "has no equation for its answer"
     for lent in re.findall(r"(\w+): &(?:'\w+ )?mut |&(?:'\w+ )?mut (self)", signature):
-        if not any(fact.startswith(f"{''.join(lent)}.new ≡ ") for fact in facts):
+        if not any(lent_at_return(fact, "".join(lent), equations) for fact in facts):
             yield f"has no equation for {''.join(lent)} at return"
 
 
 def main():
     excused = set(EXCEPTION.findall((ROOT / "docs/EXCEPTIONS.md").read_text()))
-    fields, equations, seen, faults, used = structs(), records(), set(), [], set()
+    fields, ones, seen, faults, used = structs(), relations(), set(), [], set()
+    equations = records(fields)
     for source in sorted(ROOT.glob("crates/*/src/**/*.rt")):
         crate = source.relative_to(ROOT / "crates").parts[0]
         library = ROOT / "crates" / crate / "src/lib.rt"
@@ -160,12 +188,12 @@ def main():
         for name, contract in functions(source.read_text()):
             whole = f"{crate}::{name}"
             seen.add(whole)
-            if source.name != "lib.rt" and name not in exported and whole not in ENTRIES:
+            if source.name != "lib.rt" and name.split("::")[0] not in exported and whole not in ENTRIES:
                 faults.append(f"{whole} is public, and no other crate can reach it: pub(crate)")
                 continue
             if whole in ENTRIES and any(kind == "requires" for kind, _ in clauses(contract)):
                 faults.append(f"{whole} is an entry and has a requires")
-            open_ends = list(faults_of(contract, fields, equations))
+            open_ends = list(faults_of(contract, fields, equations, ones))
             if open_ends and whole in excused:
                 used.add(whole)
             else:

@@ -2,16 +2,19 @@
 -- stands ACCEPTED, as for any number past the table.
 -- Assumes nothing.
 use mathlib.Core.Path.{◌≡◌, refl, sym, ap, ◌∙◌}
-use mathlib.Core.Bool.{true}
+use mathlib.Core.Bool.{Bool, true, false}
 use mathlib.Core.List.{[], ◌∷◌}
 use Prim.Native.Nat.{ℕ}
+use Rattle.std.specs.Prelude.{Ok, Err}
 use native.Mathlib.Omega.{arith}
 use lib.ListN.{get_or}
 use borrow.Author.Tests.{eqb-true}
 use Rattle.answer.specs.Verdicts.{numbers_of, accepted}
 use Rattle.answer.specs.declared.Numbers.{Numbers}
-use Rattle.answer.specs.declared.Answer.{Answer}
-use Rattle.answer.specs.declared.Answer.TheVariants.{
+use Rattle.answer.specs.declared.Refusal.{Refusal}
+use Rattle.answer.specs.declared.Refusal.TheVariants as refusal
+use Rattle.answer.specs.Answers.{
+  Answer,
   Accepted,
   Size,
   Word,
@@ -63,25 +66,25 @@ abbrev named : Numbers → Answer
 named n = answer_in n.verdict n.part n.place n.rule n.expected n.found
 
 named_back : (a : Answer) → named (numbers_of a) ≡ a
-named_back Accepted = refl
-named_back (Size part place) = refl
-named_back (Word part place) = refl
-named_back (Instruction place) = refl
-named_back Start = refl
-named_back (Exec row rule expected found) = refl
-named_back (Extension row rule expected found) = refl
-named_back (Bus part row) = refl
-named_back (Label place) = refl
-named_back (Stuck row rule) = refl
-named_back (Room row) = refl
-named_back (Open row) = refl
-named_back Buffer = refl
-named_back Grid = refl
-named_back (Edition place) = refl
-named_back (Listing place) = refl
-named_back (Short place) = refl
-named_back Host = refl
-named_back (ListShort place) = refl
+named_back (Ok x) = refl
+named_back (Err (refusal.Size part place)) = refl
+named_back (Err (refusal.Word part place)) = refl
+named_back (Err (refusal.Instruction place)) = refl
+named_back (Err refusal.Start) = refl
+named_back (Err (refusal.Exec row rule expected found)) = refl
+named_back (Err (refusal.Extension row rule expected found)) = refl
+named_back (Err (refusal.Bus part row)) = refl
+named_back (Err (refusal.Label place)) = refl
+named_back (Err (refusal.Stuck row rule)) = refl
+named_back (Err (refusal.Room row)) = refl
+named_back (Err (refusal.Open row)) = refl
+named_back (Err refusal.Buffer) = refl
+named_back (Err refusal.Grid) = refl
+named_back (Err (refusal.Edition place)) = refl
+named_back (Err (refusal.Listing place)) = refl
+named_back (Err (refusal.Short place)) = refl
+named_back (Err refusal.Host) = refl
+named_back (Err (refusal.ListShort place)) = refl
 
 pub one_number : (a b : Answer) → numbers_of a ≡ numbers_of b → a ≡ b
 one_number a b e = sym (named_back a) ∙ ap named e ∙ named_back b
@@ -96,3 +99,11 @@ verdict_zero a e = sym (named_back a) ∙ rw e
 
 pub accepted_is : (a : Answer) → accepted a ≡ true → a ≡ Accepted
 accepted_is a e = verdict_zero a (eqb-true (numbers_of a).verdict 0 e)
+
+not_accepted : (b : Bool) (r : Refusal) → accepted (Err r) ≡ b → b ≡ false
+not_accepted false r e = refl
+not_accepted true r e = let is : Err r ≡ Accepted = accepted_is (Err r) e in cc
+
+-- and no refusal's
+pub refusal_not_accepted : (r : Refusal) → accepted (Err r) ≡ false
+refusal_not_accepted r = not_accepted (accepted (Err r)) r refl

@@ -1,13 +1,13 @@
-// The answers of document 01, "Verdicts", and of document 02's requests: an enum, and its six numbers.
+// The answers of document 01, "Verdicts", and of document 02's requests: accepted or an enum's refusal, and the six
+// numbers of each.
 #![tactic(auto)]
 
 ghost use Rattle.std.specs.Prelude.{◌≡◌};
-ghost use Rattle.answer.specs.Verdicts.{six, numbers_of, accepted};
+ghost use Rattle.answer.specs.Verdicts.{six, numbers_of, refusal_numbers, accepted};
 
-// A case for each verdict, in the paper's order, with what the paper names in it.
-#[derive(Clone, Copy)]
-pub enum Answer {
-    Accepted,
+// A case for each verdict but ACCEPTED, in the paper's order, with what the paper names in it.
+#[derive(Clone, Copy, PartialEq, Eq)]
+pub enum Refusal {
     Size {
         part: u32,
         place: u32,
@@ -66,6 +66,9 @@ pub enum Answer {
     },
 }
 
+// ACCEPTED, or the refusal.
+pub type Answer = Result<(), Refusal>;
+
 // An answer as the paper counts it. What a verdict does not name is 0.
 #[derive(Clone, Copy)]
 pub struct Numbers {
@@ -97,40 +100,48 @@ fn four(verdict: u32, part: u32, place: u32, rule: u32) -> Numbers
     six(verdict, part, place, rule, 0, 0)
 }
 
-// The six numbers of an answer.
-pub fn six_numbers(a: Answer) -> Numbers
-    ensures { result ≡ numbers_of a }
+fn refusal_numbers(refusal: Refusal) -> Numbers
+    ensures { result ≡ refusal_numbers refusal }
 {
-    match a {
-        Answer::Accepted => four(0, 0, 0, 0),
-        Answer::Size { part, place } => four(1, part, place, 0),
-        Answer::Word { part, place } => four(2, part, place, 0),
-        Answer::Instruction { place } => four(3, 1, place, 0),
-        Answer::Start => four(4, 0, 0, 0),
-        Answer::Exec {
+    match refusal {
+        Refusal::Size { part, place } => four(1, part, place, 0),
+        Refusal::Word { part, place } => four(2, part, place, 0),
+        Refusal::Instruction { place } => four(3, 1, place, 0),
+        Refusal::Start => four(4, 0, 0, 0),
+        Refusal::Exec {
             row,
             rule,
             expected,
             found,
         } => six(5, 3, row, rule, expected, found),
-        Answer::Extension {
+        Refusal::Extension {
             row,
             rule,
             expected,
             found,
         } => six(6, 4, row, rule, expected, found),
-        Answer::Bus { part, row } => four(7, part, row, 0),
-        Answer::Label { place } => four(8, 0, place, 0),
-        Answer::Stuck { row, rule } => four(9, 0, row, rule),
-        Answer::Room { row } => four(10, 0, row, 0),
-        Answer::Open { row } => four(11, 0, row, 0),
-        Answer::Buffer => four(13, 0, 0, 0),
-        Answer::Grid => four(14, 0, 0, 0),
-        Answer::Edition { place } => four(15, 0, place, 0),
-        Answer::Listing { place } => four(16, 0, place, 0),
-        Answer::Short { place } => four(17, 0, place, 0),
-        Answer::Host => four(18, 0, 0, 0),
-        Answer::ListShort { place } => four(19, 0, place, 0),
+        Refusal::Bus { part, row } => four(7, part, row, 0),
+        Refusal::Label { place } => four(8, 0, place, 0),
+        Refusal::Stuck { row, rule } => four(9, 0, row, rule),
+        Refusal::Room { row } => four(10, 0, row, 0),
+        Refusal::Open { row } => four(11, 0, row, 0),
+        Refusal::Buffer => four(13, 0, 0, 0),
+        Refusal::Grid => four(14, 0, 0, 0),
+        Refusal::Edition { place } => four(15, 0, place, 0),
+        Refusal::Listing { place } => four(16, 0, place, 0),
+        Refusal::Short { place } => four(17, 0, place, 0),
+        Refusal::Host => four(18, 0, 0, 0),
+        Refusal::ListShort { place } => four(19, 0, place, 0),
+    }
+}
+
+// The six numbers of an answer.
+pub fn six_numbers(a: Answer) -> Numbers
+    ensures { result ≡ numbers_of a }
+{
+    match a {
+        Ok(()) => four(0, 0, 0, 0),
+        Err(refusal) => refusal_numbers(refusal),
     }
 }
 

@@ -7,14 +7,15 @@ use mathlib.Core.List.{List, [], ◌∷◌}
 use Prim.Native.Nat.{ℕ, ◌+◌, ◌-◌, ◌*◌, ◌/◌, ◌%◌, ◌<◌}
 use native.Mathlib.Nat.{mul-add-mod_self_left, mod-eq_of_lt}
 use native.Mathlib.Omega.{arith}
-use lib.ListN.{length, get_or, set, length-set}
+use lib.ListN.{length, set}
 use lib.Seq.{get_or-set_same, get_or-set_other}
 use borrow.Author.Tests.{ne_eqb}
 use Rattle.rows.specs.Rows.{exec_at, ext_at}
 use Rattle.rules.specs.Bus.{Tuple, same_tuple, total, pushed, pushes, pulled, pulls, pushed_to, pulled_to, instruction_of}
 use Rattle.rules.specs.Sizes.{given, tables}
 use Rattle.word.proofs.Tests.{each}
-use Rattle.bus_rounds.specs.Slots.{class_of, live, slot_at, waiting, held_to, Tagged, Sized, OneMore, OneLess, Put, Taken}
+use Rattle.bus_rounds.specs.Slots.{class_of, live, slot_at, waiting, held_to, Tagged, OneMore, OneLess, Put, Taken}
+use Rattle.bus_rounds.specs.declared.slot.Slots.{Slots}
 use Rattle.bus_tuples.proofs.Tuples.{same_tuple_lem}
 use Rattle.bus_tuples.proofs.Totals.{one_more, counts_none, total_zero, total_set}
 use Rattle.bus_tuples.proofs.Pulling.{pulls_none_lem, pulls_one}
@@ -24,11 +25,11 @@ dead : (ext : List ℕ) (span : ℕ) (σ : Tuple) (x : ℕ) → live x ≡ false
 unfolding waiting
 dead ext span σ x e = rw e
 
-pub none_held : (ext : List ℕ) (span : ℕ) (lo hi : List ℕ) (σ : Tuple) (n : ℕ) → ((s : ℕ) → s < n → live (slot_at lo hi s) ≡ false)
-    → held_to ext span lo hi σ n ≡ 0
+pub none_held : (ext : List ℕ) (span : ℕ) (slots : Slots) (σ : Tuple) (n : ℕ) → ((s : ℕ) → s < n → live (slot_at slots s) ≡ false)
+    → held_to ext span slots σ n ≡ 0
 unfolding held_to
-none_held ext span lo hi σ n none =
-    total_zero (λ s. cond (waiting ext span σ (slot_at lo hi s)) 1 0) n (λ s h. dead ext span σ (slot_at lo hi s) (none s h))
+none_held ext span slots σ n none =
+    total_zero (λ s. cond (waiting ext span σ (slot_at slots s)) 1 0) n (λ s h. dead ext span σ (slot_at slots s) (none s h))
 
 -- a number of a tag is that of a row, which waits
 pub waits_as : (ext : List ℕ) {span low : ℕ} (σ : Tuple) (k : ℕ) → Tagged span low → k + 1 < span
@@ -41,32 +42,31 @@ waits_as ext {span} {low} σ k tagged few =
     rw (ne_eqb (low + k + 1) 0 (λ e. omega arith), ne_eqb (low + k + 1) 16777215 (λ e. omega (arith, tagged.fits)), row)
 
 -- a slot is written
-module _ (lo hi : List ℕ) (size : Sized lo hi) (q a b : ℕ) (inside : q < 6553) where
-  stored : slot_at (set lo q a) (set hi q b) q ≡ a + 65536 * b
-  stored = rw (get_or-set_same lo q a 0 (omega (arith, size.low)), get_or-set_same hi q b 0 (omega (arith, size.high)))
+module _ (slots : Slots) (low : length slots.lo ≡ 6553) (high : length slots.hi ≡ 6553) (q a b : ℕ) (inside : q < 6553) where
+  abbrev written : Slots
+  written = record { lo = set slots.lo q a; hi = set slots.hi q b }
 
-  kept : (s : ℕ) → (s ≡ q → ⊥) → slot_at (set lo q a) (set hi q b) s ≡ slot_at lo hi s
-  kept s differs = rw (get_or-set_other lo q s a 0 differs, get_or-set_other hi q s b 0 differs)
+  stored : slot_at written q ≡ a + 65536 * b
+  stored = rw (get_or-set_same slots.lo q a 0 (omega arith), get_or-set_same slots.hi q b 0 (omega arith))
 
-  size_set : Sized (set lo q a) (set hi q b)
-  size_set = record { low = simp length-set size.low; high = simp length-set size.high }
+  kept : (s : ℕ) → (s ≡ q → ⊥) → slot_at written s ≡ slot_at slots s
+  kept s differs = rw (get_or-set_other slots.lo q s a 0 differs, get_or-set_other slots.hi q s b 0 differs)
 
   held_set : (ext : List ℕ) (span : ℕ) (σ : Tuple) (n : ℕ) → q < n
-      → held_to ext span (set lo q a) (set hi q b) σ n + cond (waiting ext span σ (slot_at lo hi q)) 1 0
-      ≡ held_to ext span lo hi σ n + cond (waiting ext span σ (a + 65536 * b)) 1 0
+      → held_to ext span written σ n + cond (waiting ext span σ (slot_at slots q)) 1 0
+      ≡ held_to ext span slots σ n + cond (waiting ext span σ (a + 65536 * b)) 1 0
   unfolding held_to
   held_set ext span σ n h =
       let held : ℕ → ℕ = λ x. cond (waiting ext span σ x) 1 0 in
-      let were : ℕ → ℕ = λ s. held (slot_at lo hi s) in
-      total_set (λ s. held (slot_at (set lo q a) (set hi q b) s)) were q (λ s differs. ap held (kept s differs)) n h
+      let were : ℕ → ℕ = λ s. held (slot_at slots s) in
+      total_set (λ s. held (slot_at written s)) were q (λ s differs. ap held (kept s differs)) n h
       ∙ ap (λ x. total were n + held x) stored
 
   -- the number of row k is put into an empty slot
-  pub slot_put : (ext : List ℕ) {span low : ℕ} (k : ℕ) → Tagged span low → k + 1 < span → a + 65536 * b ≡ low + k + 1 → slot_at lo hi q ≡ 0
-      → OneMore ext span (pulled (ext_at ext (120 * k))) lo hi (set lo q a) (set hi q b)
+  pub slot_put : (ext : List ℕ) {span low : ℕ} (k : ℕ) → Tagged span low → k + 1 < span → a + 65536 * b ≡ low + k + 1 → slot_at slots q ≡ 0
+      → OneMore ext span (pulled (ext_at ext (120 * k))) slots written
   slot_put ext {span} k tagged few number empty =
       record {
-        size = size_set;
         held = λ σ.
             let held : ℕ → ℕ = λ x. cond (waiting ext span σ x) 1 0 in
             let was = ap held empty ∙ dead ext span σ 0 refl in
@@ -83,15 +83,14 @@ waits_same ext span τ σ x e =
     ap (λ b. b && same_tuple row σ) both.0 ∙ ap (λ ρ. same_tuple ρ σ) (same_tuple_lem row τ both.1)
 
 -- a slot in which a row waits is taken
-pub slot_taken : (ext : List ℕ) (span : ℕ) (τ : Tuple) (lo hi : List ℕ) (q : ℕ) → Sized lo hi → q < 6553 → waiting ext span τ (slot_at lo hi q) ≡ true
-    → OneLess ext span τ lo hi (set lo q 65535) (set hi q 255)
-slot_taken ext span τ lo hi q size inside waits =
+pub slot_taken : (ext : List ℕ) (span : ℕ) (τ : Tuple) (slots : Slots) → length slots.lo ≡ 6553 → length slots.hi ≡ 6553 → (q : ℕ) → q < 6553
+    → waiting ext span τ (slot_at slots q) ≡ true → OneLess ext span τ slots (record { lo = set slots.lo q 65535; hi = set slots.hi q 255 })
+slot_taken ext span τ slots low high q inside waits =
     record {
-      size = size_set lo hi size q 65535 255 inside;
       held = λ σ.
           let gone = dead ext span σ 16777215 refl in
-          let was = ap {B = ℕ} (λ b. cond b 1 0) (waits_same ext span τ σ (slot_at lo hi q) waits) in
-          omega (arith, held_set lo hi size q 65535 255 inside ext span σ 6553 inside);
+          let was = ap {B = ℕ} (λ b. cond b 1 0) (waits_same ext span τ σ (slot_at slots q) waits) in
+          omega (arith, held_set slots low high q 65535 255 inside ext span σ 6553 inside);
     }
 
 -- a row counts nothing of a tuple of another class
@@ -103,47 +102,35 @@ other_class rounds class σ τ n mine differs = go (same_tuple τ σ) refl
     go false e = refl
 
 -- no slot is used yet, and no row is put
-pub none_put : (ext : List ℕ) (span rounds class : ℕ) (zeros : List ℕ) → length zeros ≡ 6553 → ((s : ℕ) → s < 6553 → get_or zeros s 0 ≡ 0)
-    → Put ext span rounds class zeros zeros 0
-none_put ext span rounds class zeros size empty =
-    record {
-      size = record { low = size; high = size };
-      waits = λ σ mine. none_held ext span zeros zeros σ 6553 (λ s h. ap (λ x. live (x + 65536 * x)) (empty s h));
-    }
+pub none_put : (ext : List ℕ) (span rounds class : ℕ) (slots : Slots) → ((s : ℕ) → s < 6553 → slot_at slots s ≡ 0)
+    → Put ext span rounds class slots 0
+none_put ext span rounds class slots empty = record { waits = λ σ mine. none_held ext span slots σ 6553 (λ s h. ap live (empty s h)) }
 
 -- extension row k
-module _ {ext : List ℕ} {span rounds class : ℕ} {lo hi : List ℕ} {k : ℕ} (put : Put ext span rounds class lo hi k) where
+module _ {ext : List ℕ} {span rounds class : ℕ} {slots : Slots} {k : ℕ} (put : Put ext span rounds class slots k) where
   abbrev pulls_of : Tuple → ℕ → ℕ
   pulls_of σ j = cond (same_tuple (pulled (ext_at ext (120 * j))) σ) (pulls (ext_at ext (120 * j))) 0
 
-  pub pulls_nothing : pulls (ext_at ext (120 * k)) ≡ 0 → Put ext span rounds class lo hi (k + 1)
-  pulls_nothing none = record { size = put.size; waits = λ σ mine. put.waits σ mine ∙ sym (pulls_none_lem ext σ k none) }
+  pub pulls_nothing : pulls (ext_at ext (120 * k)) ≡ 0 → Put ext span rounds class slots (k + 1)
+  pulls_nothing none = record { waits = λ σ mine. put.waits σ mine ∙ sym (pulls_none_lem ext σ k none) }
 
-  pub pulls_other : (class_of rounds (pulled (ext_at ext (120 * k))) ≡ class → ⊥) → Put ext span rounds class lo hi (k + 1)
+  pub pulls_other : (class_of rounds (pulled (ext_at ext (120 * k))) ≡ class → ⊥) → Put ext span rounds class slots (k + 1)
   pulls_other differs =
       let row = ext_at ext (120 * k) in
-      record {
-        size = put.size;
-        waits = λ σ mine.
-            omega (arith, one_more (pulls_of σ) k, put.waits σ mine, other_class rounds class σ (pulled row) (pulls row) mine differs);
-      }
+      record { waits = λ σ mine. omega (arith, one_more (pulls_of σ) k, put.waits σ mine, other_class rounds class σ (pulled row) (pulls row) mine differs) }
 
-  pub pulls_once : {lo₁ hi₁ : List ℕ} → pulls (ext_at ext (120 * k)) ≡ 1 → OneMore ext span (pulled (ext_at ext (120 * k))) lo hi lo₁ hi₁
-      → Put ext span rounds class lo₁ hi₁ (k + 1)
+  pub pulls_once : {slots₁ : Slots} → pulls (ext_at ext (120 * k)) ≡ 1 → OneMore ext span (pulled (ext_at ext (120 * k))) slots slots₁
+      → Put ext span rounds class slots₁ (k + 1)
   pulls_once once more =
-      record {
-        size = more.size;
-        waits = λ σ mine. omega (arith, put.waits σ mine, more.held σ, pulls_one ext (pulled (ext_at ext (120 * k))) σ k once refl);
-      }
+      record { waits = λ σ mine. omega (arith, put.waits σ mine, more.held σ, pulls_one ext (pulled (ext_at ext (120 * k))) σ k once refl) }
 
 -- every row is put, and none is taken yet
-pub none_taken : (program exec : List ℕ) {ext : List ℕ} {span rounds class : ℕ} {lo hi : List ℕ} {n : ℕ} → n ≡ length ext / 120
-    → Put ext span rounds class lo hi n → Taken program exec ext span rounds class lo hi 0
-none_taken program exec {ext} all put =
-    record { size = put.size; waits = λ σ mine. omega (arith, put.waits σ mine, ap (pulled_to (tables [] ext) σ) all) }
+pub none_taken : (program exec : List ℕ) {ext : List ℕ} {span rounds class : ℕ} {slots : Slots}
+    → Put ext span rounds class slots (length ext / 120) → Taken program exec ext span rounds class slots 0
+none_taken program exec put = record { waits = λ σ mine. omega (arith, put.waits σ mine) }
 
 -- execution row r
-module _ {program exec ext : List ℕ} {span rounds class : ℕ} {lo hi : List ℕ} {r : ℕ} (taken : Taken program exec ext span rounds class lo hi r) where
+module _ {program exec ext : List ℕ} {span rounds class : ℕ} {slots : Slots} {r : ℕ} (taken : Taken program exec ext span rounds class slots r) where
   abbrev pushes_of : Tuple → ℕ → ℕ
   pushes_of σ j =
       let i = instruction_of (given program []) (tables exec []) j in
@@ -152,33 +139,26 @@ module _ {program exec ext : List ℕ} {span rounds class : ℕ} {lo hi : List �
   abbrev sent : Tuple
   sent = pushed (instruction_of (given program []) (tables exec []) r) (exec_at exec (32 * r))
 
-  pub pushes_nothing : pushes (instruction_of (given program []) (tables exec []) r) ≡ 0 → Taken program exec ext span rounds class lo hi (r + 1)
+  pub pushes_nothing : pushes (instruction_of (given program []) (tables exec []) r) ≡ 0 → Taken program exec ext span rounds class slots (r + 1)
   pushes_nothing none =
       let i = instruction_of (given program []) (tables exec []) r in
-      record {
-        size = taken.size;
-        waits = λ σ mine. omega (arith, one_more (pushes_of σ) r, taken.waits σ mine, counts_none (same_tuple sent σ) (pushes i) none);
-      }
+      record { waits = λ σ mine. omega (arith, one_more (pushes_of σ) r, taken.waits σ mine, counts_none (same_tuple sent σ) (pushes i) none) }
 
-  pub pushes_other : (class_of rounds sent ≡ class → ⊥) → Taken program exec ext span rounds class lo hi (r + 1)
+  pub pushes_other : (class_of rounds sent ≡ class → ⊥) → Taken program exec ext span rounds class slots (r + 1)
   pushes_other differs =
       let i = instruction_of (given program []) (tables exec []) r in
-      record {
-        size = taken.size;
-        waits = λ σ mine. omega (arith, one_more (pushes_of σ) r, taken.waits σ mine, other_class rounds class σ sent (pushes i) mine differs);
-      }
+      record { waits = λ σ mine. omega (arith, one_more (pushes_of σ) r, taken.waits σ mine, other_class rounds class σ sent (pushes i) mine differs) }
 
-  pub pushes_once : {lo₁ hi₁ : List ℕ} → pushes (instruction_of (given program []) (tables exec []) r) ≡ 1 → OneLess ext span sent lo hi lo₁ hi₁
-      → Taken program exec ext span rounds class lo₁ hi₁ (r + 1)
+  pub pushes_once : {slots₁ : Slots} → pushes (instruction_of (given program []) (tables exec []) r) ≡ 1 → OneLess ext span sent slots slots₁
+      → Taken program exec ext span rounds class slots₁ (r + 1)
   pushes_once once less =
       record {
-        size = less.size;
         waits = λ σ mine.
             let is : pushes_of σ r ≡ cond (same_tuple sent σ) 1 0 = λ i. cond (same_tuple sent σ) (once i) 0 in
             omega (arith, one_more (pushes_of σ) r, taken.waits σ mine, less.held σ);
       }
 
   -- where no row waits any more, as much is pushed as is pulled
-  pub all_taken : ((s : ℕ) → s < 6553 → live (slot_at lo hi s) ≡ false) → (σ : Tuple) → class_of rounds σ ≡ class
+  pub all_taken : ((s : ℕ) → s < 6553 → live (slot_at slots s) ≡ false) → (σ : Tuple) → class_of rounds σ ≡ class
       → pushed_to (given program []) (tables exec ext) σ r ≡ pulled_to (tables exec ext) σ (length ext / 120)
-  all_taken none σ mine = omega (arith, taken.waits σ mine, none_held ext span lo hi σ 6553 none)
+  all_taken none σ mine = omega (arith, taken.waits σ mine, none_held ext span slots σ 6553 none)

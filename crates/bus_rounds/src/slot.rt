@@ -1,12 +1,14 @@
 // Slots are tried from a tuple's own on, in steps that are the tuple's too, at most 2048 of them.
-ghost use Rattle.std.specs.Prelude.{◌≡◌, true, false, length, ℕ, ◌+◌, ◌*◌, ◌<◌, ◌≤◌};
+ghost use Rattle.std.specs.Prelude.{◌≡◌, true, false, ℕ, ◌+◌, ◌*◌, ◌<◌, ◌≤◌, length, IfSome};
 ghost use Rattle.bus_tuples.specs.Sent.{tuple_of};
 ghost use Rattle.bus_rounds.specs.Slots.{slot_at, live, waiting, Room, Tagged};
 
+use crate::Rounds;
 use crate::hash::{low_of, slot_of, step_of};
-use bus_tuples::{Sent, same, tuple_at};
+use bus_tuples::{Sent, tuple_at};
 
 // How many numbers a tag has: more than the table has rows. A short table leaves more bits to the tag.
+// stays: a number and no enum, as the definition `waiting` of specs/Slots divides by it.
 pub(crate) fn span_of(ext: &[u8]) -> u32
     requires { length ext.now ≤ 125829120 }
     ensures { Room ext.now result }
@@ -15,13 +17,6 @@ pub(crate) fn span_of(ext: &[u8]) -> u32
         return 131072;
     }
     2097152
-}
-
-// A slot's number, of which two arrays hold the parts: three bytes to a slot, and not four.
-fn number(lo: u16, hi: u8) -> u32
-    ensures { result ≡ lo + 65536 * hi }
-{
-    lo as u32 + 65536 * (hi as u32)
 }
 
 fn after(s: usize, step: usize) -> usize
@@ -35,83 +30,101 @@ fn after(s: usize, step: usize) -> usize
     next - 6553
 }
 
-// An empty slot for tuple t; 6553 where none is found.
-pub(crate) fn empty_for(lo: &[u16; 6553], hi: &[u8; 6553], t: Sent) -> usize
-    ensures { result < 6553 → slot_at lo.now hi.now result ≡ 0 }
-{
-    let step = step_of(t);
-    let mut s = slot_of(t);
-    let mut tried: usize = 0;
-    while tried < 2048 {
-        if number(lo[s], hi[s]) == 0 {
-            return s;
-        }
-        s = after(s, step);
-        tried += 1;
-    }
-    6553
-}
-
-// Whether a slot's number is that of a row with the tag that begins at low, and the row's tuple is t. A row is read
-// only where the tag agrees.
-fn waits(ext: &[u8], x: u32, t: Sent, low: u32) -> bool
-    ensures { result ≡ true → (span : ℕ) → Room ext.now span → Tagged span low → waiting ext.now span (tuple_of t) x ≡ true }
-{
-    if x <= low {
-        return false;
-    }
-    let at = 120 * ((x - low - 1) as usize);
-    if ext.len() < at + 120 {
-        return false;
-    }
-    same(tuple_at(ext, at), t)
-}
-
-// A slot where a row with tuple t waits; 6553 where none is found. None is beyond an empty slot.
-pub(crate) fn waiting_for(
-    ext: &[u8],
-    lo: &[u16; 6553],
-    hi: &[u8; 6553],
-    span: u32,
-    t: Sent,
-) -> usize
-    requires { Room ext.now span }
-    ensures { result < 6553 → waiting ext.now span (tuple_of t) (slot_at lo.now hi.now result) ≡ true }
-{
-    let low = low_of(t, span);
-    let step = step_of(t);
-    let mut s = slot_of(t);
-    let mut tried: usize = 0;
-    while tried < 2048 {
-        let x = number(lo[s], hi[s]);
-        if x == 0 {
-            return 6553;
-        }
-        if waits(ext, x, t, low) {
-            return s;
-        }
-        s = after(s, step);
-        tried += 1;
-    }
-    6553
-}
-
 fn is_live(x: u32) -> bool
     ensures { result ≡ live x }
 {
     (x != 0) & (x != 16777215)
 }
 
-// Whether no row waits. Every slot is looked at, whatever the ones before it hold, so that the compiler looks at many
-// at once.
-pub(crate) fn none_waits(lo: &[u16; 6553], hi: &[u8; 6553]) -> bool
-    ensures { result ≡ true → (s : ℕ) → s < 6553 → live (slot_at lo.now hi.now s) ≡ false }
-{
-    let mut none = true;
-    let mut s = 0;
-    while s < 6553 {
-        none = none & !is_live(number(lo[s], hi[s]));
-        s += 1;
+// The slots of a round: 24 bits each, in three bytes and not four.
+#[derive(Drop)]
+pub(crate) struct Slots {
+    pub(crate) lo: [u16; 6553],
+    pub(crate) hi: [u8; 6553],
+}
+
+impl Slots {
+    // Empty ones.
+    pub(crate) fn new() -> Slots
+        ensures { (s : ℕ) → s < 6553 → slot_at result s ≡ 0 }
+    {
+        Slots {
+            lo: [0; 6553],
+            hi: [0; 6553],
+        }
     }
-    none
+
+    // A slot's number.
+    fn number(&self, s: usize) -> u32
+        requires { s < 6553 }
+        ensures { result ≡ slot_at self.now s }
+    {
+        u32::from(self.lo[s]) + 65536 * u32::from(self.hi[s])
+    }
+
+    // An empty slot for tuple t, if one is found.
+    pub(crate) fn empty_for(&self, t: Sent) -> Option<usize>
+        ensures { IfSome result (λ s. (s < 6553) × (slot_at self.now s ≡ 0)) }
+    {
+        let step = step_of(t);
+        let mut s = slot_of(t);
+        for _ in 0..2048 {
+            if self.number(s) == 0 {
+                return Some(s);
+            }
+            s = after(s, step);
+        }
+        None
+    }
+
+    // Whether no row waits. Every slot is looked at, whatever the ones before it hold, so that the compiler looks at
+    // many at once.
+    pub(crate) fn none_waits(&self) -> bool
+        ensures { result ≡ true → (s : ℕ) → s < 6553 → live (slot_at self.now s) ≡ false }
+    {
+        let mut none = true;
+        for s in 0..6553 {
+            none = none & !is_live(self.number(s));
+        }
+        none
+    }
+}
+
+impl<'a> Rounds<'a> {
+    // Whether a slot's number is that of a row with the tag that begins at low, and the row's tuple is t. A row is read
+    // only where the tag agrees.
+    fn waits(&self, x: u32, t: Sent, low: u32) -> bool
+        requires { Tagged self.now.span low }
+        ensures { result ≡ true → waiting self.now.ext.now self.now.span (tuple_of t) x ≡ true }
+    {
+        if x <= low {
+            return false;
+        }
+        let at = 120 * ((x - low - 1) as usize);
+        if self.ext.len() < at + 120 {
+            return false;
+        }
+        tuple_at(self.ext, at) == t
+    }
+
+    // A slot where a row with tuple t waits, if one is found. None is beyond an empty slot.
+    pub(crate) fn waiting_for(&self, slots: &Slots, t: Sent) -> Option<usize>
+        ensures { IfSome result (λ s. (s < 6553)
+            × (waiting self.now.ext.now self.now.span (tuple_of t) (slot_at slots.now s) ≡ true)) }
+    {
+        let low = low_of(t, self.span);
+        let step = step_of(t);
+        let mut s = slot_of(t);
+        for _ in 0..2048 {
+            let x = slots.number(s);
+            if x == 0 {
+                return None;
+            }
+            if self.waits(x, t, low) {
+                return Some(s);
+            }
+            s = after(s, step);
+        }
+        None
+    }
 }

@@ -1,1 +1,2 @@
+pub mod Contents
 pub mod Slots

@@ -5,7 +5,6 @@ ghost use Rattle.bus_tuples.specs.Sent.{tuple_of};
 ghost use Rattle.bus_search.specs.Marks.{mark_of, is_marked, with_mark};
 
 use bus_tuples::{Sent, hash};
-use std::num::wrapping_add_u64;
 
 fn mark_of(t: Sent) -> u64
     ensures { (result ≡ mark_of (tuple_of t)) × (result < 16384) }
@@ -22,7 +21,7 @@ pub(crate) fn is_marked(marks: &[u64; 256], t: Sent) -> bool
 }
 
 // Nothing is proved of a mark: a tuple with none is not held in that window, which costs another window and no more.
-pub fn mark(marks: &mut [u64; 256], t: Sent)
+pub(crate) fn mark(marks: &mut [u64; 256], t: Sent)
     ensures { marks.new ≡ with_mark marks.old (tuple_of t) }
 {
     if is_marked(marks, t) {
@@ -30,5 +29,5 @@ pub fn mark(marks: &mut [u64; 256], t: Sent)
     }
     let m = mark_of(t);
     let at = (m / 64) as usize;
-    marks[at] = wrapping_add_u64(marks[at], 1 << (m % 64));
+    marks[at] = marks[at].wrapping_add(1 << (m % 64));
 }

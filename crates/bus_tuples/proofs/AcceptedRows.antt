@@ -3,7 +3,7 @@
 use mathlib.Core.Path.{◌≡◌}
 use Rattle.word.proofs.Tests.{is_true}
 use Rattle.rules.specs.Sizes.{Parts}
-use Rattle.answer.specs.declared.Answer.TheVariants.{Accepted}
+use Rattle.answer.specs.Answers.{Accepted}
 use Rattle.judge_spec.specs.Judged.{judge_of}
 use Rattle.judge_spec.proofs.Exactly.{accepted_satisfies}
 use Rattle.judge_spec.proofs.AcceptedRows.{pc_in_program}

@@ -1,7 +1,7 @@
 -- How often a well-formed instruction pushes: once where it has no opcode word, and else not.
 -- Assumes nothing.
 use mathlib.Core.Path.{◌≡◌, sym}
-use mathlib.Core.Bool.{Bool, true, false, not, cond}
+use mathlib.Core.Bool.{Bool, true, false, cond}
 use Prim.Native.Nat.{ℕ}
 use Rattle.word.specs.Word.{◌+ₚ◌, ◌-ₚ◌, ◌*ₚ◌}
 use Rattle.form.specs.Form.{well_formed, opcode}

@@ -9,12 +9,12 @@ mod tuple;
 
 pub use operand::selected;
 pub use order::{after_pull, after_row, next_pull};
-pub use row::{row_pushes, row_tuple};
+pub use row::ListedRows;
 pub use times::{is_precompile, pull_times};
-pub use tuple::{hash, pushed_tuple, same, tuple_at};
+pub use tuple::{hash, pushed_tuple, tuple_at};
 
 // A tuple that a row pushes or pulls on the bus.
-#[derive(Clone, Copy)]
+#[derive(Clone, Copy, PartialEq, Eq)]
 pub struct Sent {
     pub aux: u32,
     pub left: u32,

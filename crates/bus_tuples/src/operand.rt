@@ -19,16 +19,10 @@ fn selected_by_flags(flag: u32, fp_flag: u32, operand: u32, value: u32, fp: u32)
 pub fn selected(flag: u32, fp_flag: u32, operand: u32, value: u32, fp: u32) -> u32
     ensures { result ≡ selected_of flag fp_flag operand value fp }
 {
-    if fp_flag == 0 {
-        if flag == 0 {
-            return add(value, 0);
-        }
-        if flag == 1 {
-            return add(operand, 0);
-        }
+    match (flag, fp_flag) {
+        (0, 0) => add(value, 0),
+        (1, 0) => add(operand, 0),
+        (0, 1) => add(fp, operand),
+        _ => selected_by_flags(flag, fp_flag, operand, value, fp),
     }
-    if (fp_flag == 1) & (flag == 0) {
-        return add(fp, operand);
-    }
-    selected_by_flags(flag, fp_flag, operand, value, fp)
 }

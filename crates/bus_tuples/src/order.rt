@@ -5,26 +5,26 @@ ghost use Rattle.bus_tuples.specs.Order.{next_pull, after_pull, after_row};
 
 use crate::Sent;
 use crate::times::{is_precompile, pull_times};
-use crate::tuple::{pushed_tuple, same, tuple_at};
+use crate::tuple::{pushed_tuple, tuple_at};
 use form::Instruction;
 use rows::Exec;
 
 // The first extension row from a row on that may pull; their number where there is none.
+// stays: a number and no None, as the definition `next_pull` of specs/Order says, which the bus of the judge rests on.
 pub fn next_pull(ext: &[u8], from: usize) -> usize
     ensures { result ≡ next_pull ext.now from }
 {
     let n = ext.len() / 120;
-    let mut k = from;
-    while k < n {
+    for k in from..n {
         if pull_times(ext, k) != 0 {
             return k;
         }
-        k += 1;
     }
-    k
+    from.max(n)
 }
 
 // The extension row after the next pull from row k on, where that pulls t once; past the end where it doesn't.
+// stays: past the end and no None, as the definition `pulled_by` of specs/Order says, which the walk's contract cites.
 pub fn after_pull(ext: &[u8], k: usize, t: Sent) -> usize
     ensures { result ≡ after_pull ext.now k (tuple_of t) }
 {
@@ -33,7 +33,7 @@ pub fn after_pull(ext: &[u8], k: usize, t: Sent) -> usize
     if n <= at {
         return n + 1;
     }
-    if (pull_times(ext, at) == 1) & same(tuple_at(ext, 120 * at), t) {
+    if (pull_times(ext, at) == 1) & (tuple_at(ext, 120 * at) == t) {
         return at + 1;
     }
     n + 1

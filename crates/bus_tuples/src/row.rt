@@ -13,20 +13,31 @@ use form::instruction_inside;
 use rows::exec_inside;
 use word::word_inside;
 
-// Whether execution row r pushes, once. Only pc and the opcode words are read.
-pub fn row_pushes(program: &[u8], exec: &[u8], r: usize) -> bool
-    requires { Listed program.now exec.now × (r < length exec.now / 32) }
-    ensures { cond result 1 0 ≡ pushes (instruction_of (given program.now []) (tables exec.now []) r) }
-{
-    let pc = word_inside(exec, 32 * r) as usize;
-    is_precompile(instruction_inside(program, 48 * pc))
+// A program and execution rows, each of which names one of its instructions, all well-formed.
+#[derive(Clone, Copy)]
+pub struct ListedRows<'a> {
+    pub program: &'a [u8],
+    pub exec: &'a [u8],
+    pub ghost listed: { Listed program.now exec.now },
 }
 
-// The tuple of execution row r.
-pub fn row_tuple(program: &[u8], exec: &[u8], r: usize) -> Sent
-    requires { Listed program.now exec.now × (r < length exec.now / 32) }
-    ensures { tuple_of result ≡ pushed (instruction_of (given program.now []) (tables exec.now []) r) (exec_at exec.now (32 * r)) }
-{
-    let x = exec_inside(exec, 32 * r);
-    pushed_tuple(instruction_inside(program, 48 * (x.pc as usize)), x)
+impl<'a> ListedRows<'a> {
+    // Whether execution row r pushes, once. Only pc and the opcode words are read.
+    pub fn row_pushes(&self, r: usize) -> bool
+        requires { r < length self.now.exec.now / 32 }
+        ensures { cond result 1 0 ≡ pushes (instruction_of (given self.now.program.now []) (tables self.now.exec.now []) r) }
+    {
+        let pc = word_inside(self.exec, 32 * r) as usize;
+        is_precompile(instruction_inside(self.program, 48 * pc))
+    }
+
+    // The tuple of execution row r.
+    pub fn row_tuple(&self, r: usize) -> Sent
+        requires { r < length self.now.exec.now / 32 }
+        ensures { tuple_of result ≡ pushed (instruction_of (given self.now.program.now []) (tables self.now.exec.now []) r)
+            (exec_at self.now.exec.now (32 * r)) }
+    {
+        let x = exec_inside(self.exec, 32 * r);
+        pushed_tuple(instruction_inside(self.program, 48 * (x.pc as usize)), x)
+    }
 }

@@ -15,6 +15,7 @@ pub fn is_precompile(i: Instruction) -> bool
 }
 
 // Extension row k: most have no start, and of those no more is read.
+// stays: 2 where a word is no flag, and no None, as the definition `pull_by` of specs/Times says.
 pub fn pull_times(ext: &[u8], k: usize) -> u32
     requires { k < length ext.now / 120 }
     ensures { result ≡ pull_count (ext_at ext.now (120 * k)) }

@@ -3,14 +3,14 @@ ghost use Rattle.std.specs.Prelude.{◌≡◌, ◌+◌, ◌%◌, ◌≤◌, leng
 ghost use Rattle.word.specs.Word.{p};
 ghost use Rattle.form.specs.Data.{data_of};
 ghost use Rattle.rows.specs.Rows.{ext_at};
-ghost use Rattle.rules.specs.Bus.{same_tuple, pushed, pulled};
+ghost use Rattle.rules.specs.Bus.{pushed, pulled};
 ghost use Rattle.bus_tuples.specs.Sent.{tuple_of, hash_of};
 
 use crate::Sent;
 use crate::operand::selected;
 use form::Instruction;
 use rows::Exec;
-use word::{P, wide, word_inside};
+use word::{P, word_inside};
 
 // (DATA, νA, νB, νC)
 pub fn pushed_tuple(i: Instruction, x: Exec) -> Sent
@@ -31,8 +31,8 @@ pub fn pushed_tuple(i: Instruction, x: Exec) -> Sent
 fn pulled_data(be: u32, add: u32, mul: u32, peq: u32, len: u32) -> u32
     ensures { result ≡ data_of be add mul peq len % p }
 {
-    let flags = 2 * wide(be) + 4 * wide(add) + 8 * wide(mul) + 16 * wide(peq);
-    let data = flags + 32 * wide(len);
+    let flags = 2 * u64::from(be) + 4 * u64::from(add) + 8 * u64::from(mul) + 16 * u64::from(peq);
+    let data = flags + 32 * u64::from(len);
     (data % P) as u32
 }
 
@@ -55,18 +55,12 @@ pub fn tuple_at(ext: &[u8], at: usize) -> Sent
     }
 }
 
-pub fn same(s: Sent, t: Sent) -> bool
-    ensures { result ≡ same_tuple (tuple_of s) (tuple_of t) }
-{
-    (s.aux == t.aux) & (s.left == t.left) & (s.right == t.right) & (s.out == t.out)
-}
-
 // Odd numbers below 2^30, so that the sum fits 64 bits.
 pub fn hash(t: Sent) -> u64
     ensures { result ≡ hash_of (tuple_of t) }
 {
-    668265263 * wide(t.aux)
-        + 1013904223 * wide(t.left)
-        + 374761393 * wide(t.right)
-        + 914744491 * wide(t.out)
+    668265263 * u64::from(t.aux)
+        + 1013904223 * u64::from(t.left)
+        + 374761393 * u64::from(t.right)
+        + 914744491 * u64::from(t.out)
 }

@@ -6,14 +6,13 @@ use mathlib.Core.Bool.{Bool, true, false, ◌||◌, cond}
 use Prim.Native.Nat.{ℕ, zero, suc, ◌+◌, ◌-◌, ◌≤◌, ◌<◌}
 use native.Mathlib.Nat.{sub-zero}
 use native.Mathlib.Omega.{arith}
-use borrow.Author.Tests.{lt-ltb, le-ltb, eq-eqb, ne_eqb}
+use borrow.Author.Tests.{lt-ltb, le-ltb, ne_eqb}
 use Rattle.rules.specs.Given.{Given, Tables, zero?}
 use Rattle.rules.specs.Bus.{pushes, pulls, instruction_of, total, balanced}
 use Rattle.judge_spec.specs.First.{first}
 use Rattle.judge_spec.specs.Judged.{push_balanced, pull_balanced, first_push, first_pull}
 use Rattle.bus_tuples.proofs.Totals.{total_same}
-use Rattle.bus_windows.specs.declared.Tally.{Tally}
-use Rattle.bus_windows.specs.Senders.{Sending, push_sent, pull_sent, sending_of, equal_at, Tallies}
+use Rattle.bus_windows.specs.Senders.{Sending, push_sent, pull_sent, sending_of, equal_at}
 
 -- totals of two sequences, one after the other
 pub total_join : (f a b : ℕ → ℕ) (h k : ℕ) → ((r : ℕ) → r < h → f r ≡ a r) → ((r : ℕ) → r < k → f (h + r) ≡ b r)
@@ -73,20 +72,16 @@ module _ (g : Given) (t : Tables) where
   unfolding equal_at
   equal_pull k = ap (λ s. zero? (s.plus + s.minus) || balanced g t s.tuple) (send_pull k) ∙ tested (pull_sent t k) (pulls (t.ext k)) (omega arith)
 
-  -- what the code reads of sender j says of its test
-  module _ (j : ℕ) (x : Tally) (reads : Tallies x (sending_of g t j)) where
-    pub equal_nothing : x.plus + x.minus ≡ 0 → equal_at g t j ≡ true
+  -- whether sender j sends says of its test
+  module _ (j : ℕ) where
+    pub equal_nothing : (sending_of g t j).plus + (sending_of g t j).minus ≡ 0 → equal_at g t j ≡ true
     unfolding equal_at
-    equal_nothing none =
-        ap (λ b. b || balanced g t (sending_of g t j).tuple)
-        (eq-eqb ((sending_of g t j).plus + (sending_of g t j).minus) 0 (omega (arith, reads.plus_is, reads.minus_is)))
+    equal_nothing none = ap (λ n. zero? n || balanced g t (sending_of g t j).tuple) none
 
-    pub equal_sent : (x.plus + x.minus ≡ 0 → ⊥) → (b : Bool) → balanced g t (sending_of g t j).tuple ≡ b → equal_at g t j ≡ b
+    pub equal_sent : ((sending_of g t j).plus + (sending_of g t j).minus ≡ 0 → ⊥) → equal_at g t j ≡ balanced g t (sending_of g t j).tuple
     unfolding equal_at
-    equal_sent some b e =
-        ap (λ n. n || balanced g t (sending_of g t j).tuple)
-        (ne_eqb ((sending_of g t j).plus + (sending_of g t j).minus) 0 (λ z. some (omega (arith, reads.plus_is, reads.minus_is))))
-        ∙ e
+    equal_sent some =
+        ap (λ n. n || balanced g t (sending_of g t j).tuple) (ne_eqb ((sending_of g t j).plus + (sending_of g t j).minus) 0 some)
 
   -- the first that is unequal, of the pushing rows and of the pulling rows, as the code looks for them
   pub first_push_lem : first (equal_at g t) 0 (t.height - 0) ≡ first_push g t

@@ -1,14 +1,23 @@
 -- Inner: the execution rows and then the extension rows as one sequence of senders, in the order in which verdict 7
 -- tries them.
--- Declared in src/: Tally, Looked (here).
-use Rattle.std.specs.Prelude.{◌≡◌, Bool, ◌||◌, cond, ℕ, ◌+◌, ◌-◌, ◌≤◌, ◌<◌, ltb}
+-- Declared in src/: ops (std); sender (here).
+use Rattle.std.specs.Prelude.{◌≡◌, ◌≢◌, Bool, ◌||◌, cond, [], Option, Some, None, ℕ, ◌+◌, ◌-◌, ◌≤◌, ◌<◌, ltb}
+use Rattle.std.specs.declared.ops.ControlFlow.{ControlFlow}
+use Rattle.std.specs.declared.ops.ControlFlow.TheVariants.{Continue, Break}
 use Rattle.rules.specs.Given.{Given, Tables, zero?}
 use Rattle.rules.specs.Bus.{Tuple, pushed, pushes, pulled, pulls, instruction_of, balanced}
+use Rattle.rules.specs.Sizes.{given, tables}
 use Rattle.judge_spec.specs.First.{first}
 use Rattle.bus_tuples.specs.Sent.{tuple_of}
-use Rattle.bus_windows.specs.declared.Tally.{Tally}
-use Rattle.bus_windows.specs.declared.Looked.{Looked}
-use Rattle.bus_windows.specs.declared.Looked.TheVariants.{Refused, Next}
+use Rattle.bus_windows.specs.declared.sender.Tally.{Tally}
+use Rattle.bus_windows.specs.declared.sender.Senders.{Senders}
+
+-- what is given beside the tables, and both tables
+abbrev pub given_of : Senders → Given
+given_of s = given s.rows.program.now []
+
+abbrev pub tables_of : Senders → Tables
+tables_of s = tables s.rows.exec.now s.ext.now
 
 -- how often a row pushes, and pulls
 abbrev pub push_times : Given → Tables → ℕ → ℕ
@@ -36,13 +45,17 @@ sending_of g t j = cond (ltb j t.height) (push_sent g t j) (pull_sent t (j - t.h
 abbrev pub senders : Tables → ℕ
 senders t = t.height + t.ext_height
 
--- what the code reads of a sender; its tuple is read only where it is sent
+-- what the code reads of a sender that sends
 pub record Tallies (x : Tally) (s : Sending) : Type 0 where
   pub plus_is : x.plus ≡ s.plus
   pub minus_is : x.minus ≡ s.minus
-  pub once : x.plus ≤ 1
-  pub thrice : x.minus ≤ 3
-  pub tuple_is : (x.plus + x.minus ≡ 0 → ⊥) → tuple_of x.sent ≡ s.tuple
+  pub some : x.plus + x.minus ≢ 0
+  pub tuple_is : tuple_of x.sent ≡ s.tuple
+
+-- and of any sender
+abbrev pub Reads : Option Tally → Sending → Type 0
+Reads None s = s.plus + s.minus ≡ 0
+Reads (Some x) s = Tallies x s
 
 -- a sender that sends nothing, or whose tuple is pushed as often as it is pulled
 unfoldable pub equal_at : Given → Tables → ℕ → Bool
@@ -55,6 +68,15 @@ pub record GoesOn (equal : ℕ → Bool) (from to at : ℕ) : Type 0 where
   pub within : at ≤ to
   pub left : first equal from (to - from) ≡ first equal at (to - at)
 
-abbrev pub LooksFrom : Given → Tables → ℕ → ℕ → Looked → Type 0
-LooksFrom g t from to (Refused at) = at ≡ first (equal_at g t) from (to - from)
-LooksFrom g t from to (Next at) = GoesOn (equal_at g t) from to at
+pub record Stops (equal : ℕ → Bool) (from to at : ℕ) : Type 0 where
+  pub below : at < to
+  pub is_first : at ≡ first equal from (to - from)
+
+abbrev pub LooksFrom : Given → Tables → ℕ → ℕ → ControlFlow ℕ ℕ → Type 0
+LooksFrom g t from to (Break at) = Stops (equal_at g t) from to at
+LooksFrom g t from to (Continue at) = GoesOn (equal_at g t) from to at
+
+-- the first sender whose tuple is unequal, if there is one
+abbrev pub FirstFrom : Given → Tables → ℕ → ℕ → Option ℕ → Type 0
+FirstFrom g t from to None = first (equal_at g t) from (to - from) ≡ to
+FirstFrom g t from to (Some at) = Stops (equal_at g t) from to at

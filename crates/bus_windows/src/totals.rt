@@ -1,38 +1,32 @@
 // How often the rows push, and pull, in all.
-ghost use Rattle.std.specs.Prelude.{◌≡◌, [], ◌/◌, length};
+ghost use Rattle.std.specs.Prelude.{◌≡◌, ◌/◌, length};
 ghost use Rattle.rules.specs.Bus.{total};
-ghost use Rattle.rules.specs.Sizes.{given, tables};
-ghost use Rattle.bus_tuples.specs.Ready.{Listed, Flagged};
-ghost use Rattle.bus_windows.specs.Senders.{push_times, pull_times};
+ghost use Rattle.bus_windows.specs.Senders.{given_of, tables_of, push_times, pull_times};
 
-use bus_tuples::{pull_times, row_pushes};
+use crate::sender::Senders;
+use bus_tuples::pull_times;
 
-pub(crate) fn push_total(program: &[u8], exec: &[u8]) -> usize
-    requires { Listed program.now exec.now }
-    ensures { result ≡ total (push_times (given program.now []) (tables exec.now [])) (length exec.now / 32) }
-{
-    let h = exec.len() / 32;
-    let mut n: usize = 0;
-    let mut r = 0;
-    while r < h {
-        if row_pushes(program, exec, r) {
-            n += 1;
+impl<'a> Senders<'a> {
+    // stays: with a closure for the row, the bound of the sum and its promise would take more lines than both loops.
+    pub(crate) fn push_total(&self) -> usize
+        ensures { result ≡ total (push_times (given_of self.now) (tables_of self.now)) (length self.now.rows.exec.now / 32) }
+    {
+        let mut n: usize = 0;
+        for r in 0..self.rows.exec.len() / 32 {
+            if self.rows.row_pushes(r) {
+                n += 1;
+            }
         }
-        r += 1;
+        n
     }
-    n
-}
 
-pub(crate) fn pull_total(ext: &[u8]) -> usize
-    requires { Flagged ext.now }
-    ensures { result ≡ total (pull_times (tables [] ext.now)) (length ext.now / 120) }
-{
-    let m = ext.len() / 120;
-    let mut n: usize = 0;
-    let mut k = 0;
-    while k < m {
-        n += pull_times(ext, k) as usize;
-        k += 1;
+    pub(crate) fn pull_total(&self) -> usize
+        ensures { result ≡ total (pull_times (tables_of self.now)) (length self.now.ext.now / 120) }
+    {
+        let mut n: usize = 0;
+        for k in 0..self.ext.len() / 120 {
+            n += pull_times(self.ext, k) as usize;
+        }
+        n
     }
-    n
 }

@@ -8,8 +8,7 @@ use native.Mathlib.Omega.{arith}
 use lib.ListN.{length}
 use borrow.Author.Tests.{lt-ltb, le-ltb}
 use Rattle.answer.specs.Verdicts.{accepted}
-use Rattle.answer.specs.declared.Answer.{Answer}
-use Rattle.answer.specs.declared.Answer.TheVariants.{Accepted, Size, Word, Edition}
+use Rattle.answer.specs.Answers.{Answer, Accepted, Size, Word, Edition}
 use Rattle.judge_spec.specs.Judged.{first_word}
 use Rattle.edition_spec.specs.Told.{Lengths}
 use Rattle.edition_spec.proofs.Telling.{lengths_exactly}

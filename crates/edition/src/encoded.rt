@@ -6,6 +6,7 @@ use edition_machine::Encoded;
 use word::word_inside;
 
 // An instruction whose 56 bytes are there: it is read with no test.
+// stays: one line a word, in the draft's order; an array of the words read first would name each of them twice
 pub(crate) fn encoded_inside(s: &[u8], at: usize) -> Encoded
     requires { at + 56 ≤ length s.now }
     ensures { result ≡ encoded_at s.now at }

@@ -7,7 +7,7 @@ mod walk;
 ghost use Rattle.std.specs.Prelude.{◌≡◌, length};
 ghost use Rattle.edition_spec.specs.Translated.{lengths_fit, translate_answer, program_left};
 
-use answer::Answer;
+use answer::{Answer, Refusal};
 use inputs::first_word;
 use walk::{first_untranslatable, put_all};
 
@@ -23,19 +23,18 @@ pub fn translate(old: &[u8], program: &mut [u8]) -> Answer
         × (program.new ≡ program_left old.now program.old) }
 {
     if !lengths_fit(old.len(), program.len()) {
-        return Answer::Size { part: 1, place: 0 };
+        return Err(Refusal::Size { part: 1, place: 0 });
     }
     let word = first_word(old);
     if word < old.len() / 4 {
-        return Answer::Word {
+        return Err(Refusal::Word {
             part: 1,
             place: word as u32,
-        };
+        });
     }
-    let at = first_untranslatable(old);
-    if at < old.len() / 56 {
-        return Answer::Edition { place: at as u32 };
+    if let Some(at) = first_untranslatable(old) {
+        return Err(Refusal::Edition { place: at as u32 });
     }
     put_all(old, program);
-    Answer::Accepted
+    Ok(())
 }

@@ -5,7 +5,7 @@ use mathlib.Core.List.{List, [], ◌∷◌}
 use Prim.Native.Nat.{ℕ}
 use lib.ListN.{get_or}
 use Rattle.word.specs.Bytes.{bytes_of, concatenated}
-use Rattle.answer.specs.declared.Answer.TheVariants.{Accepted}
+use Rattle.answer.specs.Answers.{Accepted}
 use Rattle.judge_spec.specs.First.{first}
 use Rattle.edition_machine.specs.Encoding.{encoded_at}
 use Rattle.edition_spec.specs.Translatable.{translatable}

@@ -14,8 +14,7 @@ use Rattle.word.proofs.Tests.{from_true, cases, by_test}
 use Rattle.form.specs.Form.{decode_of}
 use Rattle.form.specs.declared.Instruction.{Instruction}
 use Rattle.answer.specs.Verdicts.{numbers_of, accepted}
-use Rattle.answer.specs.declared.Answer.{Answer}
-use Rattle.answer.specs.declared.Answer.TheVariants.{Accepted}
+use Rattle.answer.specs.Answers.{Answer, Accepted}
 use Rattle.outcome.specs.Outcome.{State, Outcome, goes, stuck, asked}
 use Rattle.machine.specs.Machine.{Machine}
 use Rattle.machine.specs.Step.{performs, step}

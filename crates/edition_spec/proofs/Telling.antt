@@ -9,8 +9,7 @@ use lib.Dec.{leb, eqb}
 use lib.ListN.{length}
 use borrow.Author.Tests.{eqb-true, eq-eqb, leb-true, le-leb}
 use Rattle.word.proofs.Tests.{each, cases, by_test}
-use Rattle.answer.specs.declared.Answer.{Answer}
-use Rattle.answer.specs.declared.Answer.TheVariants.{Accepted, Word, Edition}
+use Rattle.answer.specs.Answers.{Answer, Accepted, Word, Edition}
 use Rattle.judge_spec.proofs.Cases.{Reads, tested, untouched, refusing}
 use Rattle.judge_spec.proofs.StageReads.{words_read}
 use Rattle.edition_machine.specs.declared.Encoded.{Encoded}

@@ -1,10 +1,8 @@
 -- Document 02, M-102, and document 01, "Verdicts" SIZE and WORD: what each answer says of a program of draft 0.5.0 and
 -- of the room for its translation. Each says that the tests before it passed; there is no other answer.
--- Declared in src/: Answer (answer).
 use Rattle.std.specs.Prelude.{◌≡◌, List, ℕ, ◌*◌, ◌/◌, ◌%◌, ◌^◌, ◌≤◌, ◌<◌, length}
 use Rattle.word.specs.Word.{p, IsWord}
-use Rattle.answer.specs.declared.Answer.{Answer}
-use Rattle.answer.specs.declared.Answer.TheVariants.{Accepted, Size, Word, Edition}
+use Rattle.answer.specs.Answers.{Answer, Accepted, Size, Word, Edition}
 use Rattle.rules.specs.Sizes.{word_of}
 use Rattle.rules.specs.Satisfies.{Words}
 use Rattle.edition_spec.specs.Translatable.{Reason}

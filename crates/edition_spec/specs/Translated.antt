@@ -1,13 +1,12 @@
 -- Document 02, M-102, and document 01, "Verdicts" SIZE and WORD: the answer to a program of draft 0.5.0, and the other
 -- buffer at return.
--- Declared in src/: Answer (answer); Encoded (edition_machine).
+-- Declared in src/: Encoded (edition_machine).
 use Rattle.std.specs.Prelude.{Bool, ◌&&◌, cond, List, ℕ, ◌*◌, ◌/◌, ◌%◌, ◌^◌, leb, eqb, length}
 use Rattle.word.specs.Bytes.{concatenated}
 use Rattle.form.specs.Instruction.{instruction_words}
 use Rattle.rows.specs.Rows.{bytes_of_words}
 use Rattle.answer.specs.Verdicts.{accepted}
-use Rattle.answer.specs.declared.Answer.{Answer}
-use Rattle.answer.specs.declared.Answer.TheVariants.{Accepted, Size, Edition}
+use Rattle.answer.specs.Answers.{Answer, Accepted, Size, Edition}
 use Rattle.judge_spec.specs.First.{first}
 use Rattle.judge_spec.specs.Judged.{refused, words}
 use Rattle.edition_machine.specs.Encoding.{encoded_at}

@@ -29,9 +29,10 @@ fn carry(e: Encoded) -> Instruction
     ensures { result ≡ carried e }
 {
     if e.fc == 1 {
-        return three_form(e, 0, 0, 1);
+        three_form(e, 0, 0, 1)
+    } else {
+        three_form(e, e.c, 0, 0)
     }
-    three_form(e, e.c, 0, 0)
 }
 
 fn deref_form(alpha: u32, beta: u32, c: u32, fc: u32, fpc: u32) -> Instruction
@@ -58,16 +59,14 @@ fn exchange(e: Encoded) -> Instruction
     ensures { result ≡ exchanged e }
 {
     if e.aux1 == 1 {
-        return deref_form(e.a, e.c, e.b, e.fb, 0);
+        deref_form(e.a, e.c, e.b, e.fb, 0)
+    } else {
+        deref_form(e.a, e.c, 0, 0, 1)
     }
-    deref_form(e.a, e.c, 0, 0, 1)
 }
 
 pub fn translation(e: Encoded) -> Instruction
     ensures { result ≡ translated e }
 {
-    if e.deref == 1 {
-        return exchange(e);
-    }
-    carry(e)
+    if e.deref == 1 { exchange(e) } else { carry(e) }
 }

@@ -1,27 +1,27 @@
 // Whether 14 words are translatable: no reason of EDITION's holds.
-ghost use Rattle.std.specs.Prelude.{◌≡◌};
+ghost use Rattle.std.specs.List.{list_all};
+ghost use Rattle.std.specs.Prelude.{◌≡◌, nat_le};
 ghost use Rattle.edition_spec.specs.Translatable.{flags_known, one_opcode, deref_fixed, no_precompile, translatable};
 
 use edition_machine::Encoded;
-use word::wide;
+
+fn are_flags(words: &[u32]) -> bool
+    ensures { result ≡ list_all (λ x. nat_le x 1) words.now }
+{
+    words.iter().all(|word| *word <= 1)
+}
 
 fn flags_known(e: Encoded) -> bool
     ensures { result ≡ flags_known e }
 {
-    (e.fa <= 1)
-        & (e.fb <= 1)
-        & (e.fc <= 1)
-        & (e.add <= 1)
-        & (e.mul <= 1)
-        & (e.deref <= 1)
-        & (e.jump <= 1)
+    are_flags(&[e.fa, e.fb, e.fc, e.add, e.mul, e.deref, e.jump])
 }
 
 // Words of any size are summed, so in 64 bits.
 fn one_opcode(e: Encoded) -> bool
     ensures { result ≡ one_opcode e }
 {
-    wide(e.add) + wide(e.mul) + wide(e.deref) + wide(e.jump) == 1
+    u64::from(e.add) + u64::from(e.mul) + u64::from(e.deref) + u64::from(e.jump) == 1
 }
 
 fn deref_fixed(e: Encoded) -> bool

@@ -2,8 +2,9 @@
 -- Assumes nothing.
 use mathlib.Core.Path.{◌≡◌, ◌∙◌, ap, ap₂, refl}
 use mathlib.Core.List.{List, [], ◌∷◌}
-use Prim.Native.Nat.{ℕ, ◌+◌, ◌*◌, ◌%◌}
+use Prim.Native.Nat.{ℕ, zero, suc, ◌+◌, ◌*◌, ◌%◌}
 use native.Mathlib.Nat.{add-zero, mul_comm, mul-add}
+use native.Mathlib.Numerals.{add-one}
 use native.Mathlib.Omega.{arith}
 use Rattle.word.specs.Word.{p, ◌+ₚ◌, ◌-ₚ◌, ◌*ₚ◌}
 use Rattle.word.specs.Element.{◌⟨◌⟩, IsElement, element, ◌+ₑ◌, ◌·ₑ◌, nine, folded, ◌*ₑ◌}
@@ -48,7 +49,7 @@ product_over : (x y z : ℕ) → x *ₚ (y -ₚ z) ≡ x *ₚ y -ₚ x *ₚ z
 product_over x y z =
     product_comm x (y -ₚ z) ∙ product_difference y z x ∙ ap₂ (λ (m n : ℕ). m -ₚ n) (product_comm y x) (product_comm z x)
 
-pub times_x_element : (b : List ℕ) → IsElement b → IsElement (times_x b)
+times_x_element : (b : List ℕ) → IsElement b → IsElement (times_x b)
 unfolding times_x
 times_x_element b e =
     let w = e.all_words in
@@ -62,27 +63,43 @@ folded_of : (d₀ d₁ d₂ d₃ d₄ d₅ d₆ d₇ d₈ : ℕ) → folded (d�
 unfolding folded
 folded_of d₀ d₁ d₂ d₃ d₄ d₅ d₆ d₇ d₈ = refl
 
--- the words of a by b, b·X, b·X^2, b·X^3 and b·X^4, summed
-unfoldable pub in_sums : List ℕ → List ℕ → List ℕ
-in_sums a b =
-    element 0 +ₑ a ⟨ 0 ⟩ ·ₑ b +ₑ a ⟨ 1 ⟩ ·ₑ times_x b +ₑ a ⟨ 2 ⟩ ·ₑ times_x (times_x b) +ₑ a ⟨ 3 ⟩ ·ₑ times_x (times_x (times_x b))
-    +ₑ a ⟨ 4 ⟩ ·ₑ times_x (times_x (times_x (times_x b)))
+-- b·X^k, and the words of a below k by b, b·X, .. summed
+unfoldable pub shifted : ℕ → List ℕ → List ℕ
+shifted zero b = b
+shifted (suc k) b = times_x (shifted k b)
+
+unfoldable pub in_sums : ℕ → List ℕ → List ℕ → List ℕ
+in_sums zero a b = element 0
+in_sums (suc k) a b = in_sums k a b +ₑ a ⟨ k ⟩ ·ₑ shifted k b
+
+pub shifted_next : (k : ℕ) (b : List ℕ) → times_x (shifted k b) ≡ shifted (k + 1) b
+unfolding shifted
+shifted_next k b = rw (add-one k)
+
+pub sums_next : (k : ℕ) (a b : List ℕ) → in_sums k a b +ₑ a ⟨ k ⟩ ·ₑ shifted k b ≡ in_sums (k + 1) a b
+unfolding in_sums
+sums_next k a b = rw (add-one k)
+
+pub shifted_element : (k : ℕ) (b : List ℕ) → IsElement b → IsElement (shifted k b)
+unfolding shifted
+shifted_element zero b e = e
+shifted_element (suc k) b e = times_x_element (shifted k b) (shifted_element k b e)
 
 -- the same, word by word
 abbrev along : List ℕ → ℕ → ℕ → ℕ → ℕ → ℕ → ℕ
 along a x₀ x₁ x₂ x₃ x₄ = 0 +ₚ a ⟨ 0 ⟩ *ₚ x₀ +ₚ a ⟨ 1 ⟩ *ₚ x₁ +ₚ a ⟨ 2 ⟩ *ₚ x₂ +ₚ a ⟨ 3 ⟩ *ₚ x₃ +ₚ a ⟨ 4 ⟩ *ₚ x₄
 
-word_by_word : (a b : List ℕ) → in_sums a b
+word_by_word : (a b : List ℕ) → in_sums 5 a b
     ≡ along a (b ⟨ 0 ⟩) (b ⟨ 4 ⟩) (b ⟨ 3 ⟩) (b ⟨ 2 ⟩) (b ⟨ 1 ⟩ -ₚ b ⟨ 4 ⟩)
     ∷ along a (b ⟨ 1 ⟩) (b ⟨ 0 ⟩) (b ⟨ 4 ⟩) (b ⟨ 3 ⟩) (b ⟨ 2 ⟩)
     ∷ along a (b ⟨ 2 ⟩) (b ⟨ 1 ⟩ -ₚ b ⟨ 4 ⟩) (b ⟨ 0 ⟩ -ₚ b ⟨ 3 ⟩) (b ⟨ 4 ⟩ -ₚ b ⟨ 2 ⟩) (b ⟨ 3 ⟩ -ₚ (b ⟨ 1 ⟩ -ₚ b ⟨ 4 ⟩))
     ∷ along a (b ⟨ 3 ⟩) (b ⟨ 2 ⟩) (b ⟨ 1 ⟩ -ₚ b ⟨ 4 ⟩) (b ⟨ 0 ⟩ -ₚ b ⟨ 3 ⟩) (b ⟨ 4 ⟩ -ₚ b ⟨ 2 ⟩)
     ∷ along a (b ⟨ 4 ⟩) (b ⟨ 3 ⟩) (b ⟨ 2 ⟩) (b ⟨ 1 ⟩ -ₚ b ⟨ 4 ⟩) (b ⟨ 0 ⟩ -ₚ b ⟨ 3 ⟩)
     ∷ []
-unfolding in_sums times_x ◌+ₑ◌ ◌·ₑ◌
+unfolding in_sums shifted times_x ◌+ₑ◌ ◌·ₑ◌
 word_by_word a b = refl
 
-pub by_sums : (a b : List ℕ) → in_sums a b ≡ a *ₑ b
+pub by_sums : (a b : List ℕ) → in_sums 5 a b ≡ a *ₑ b
 unfolding ◌*ₑ◌ nine
 by_sums a b =
     word_by_word a b

@@ -3,52 +3,47 @@
 
 mod fold;
 
-ghost use Rattle.std.specs.Prelude.{◌≡◌};
-ghost use Rattle.word.specs.Element.{◌+ₑ◌, ◌-ₑ◌, ◌·ₑ◌, peqₑ};
+ghost use Rattle.std.specs.Prelude.{◌≡◌, ℕ, ◌<◌};
+ghost use Rattle.word.specs.Element.{◌⟨◌⟩, ◌+ₑ◌, ◌-ₑ◌, ◌·ₑ◌, peqₑ};
 
 pub use fold::product;
+
+// Place by place: what a function gives of the two words there.
+// stays: written out (c): of `array::from_fn` the proof did not close: its promise names no capture.
+fn by_place<F: Fn(u32, u32) -> u32>(a: [u32; 5], b: [u32; 5], of: F) -> [u32; 5]
+    requires { F.IsAlwaysCallable of }
+    ensures { (k : ℕ) → k < 5 → F.post of (a ⟨ k ⟩) (b ⟨ k ⟩) (result ⟨ k ⟩) }
+{
+    [
+        of(a[0], b[0]),
+        of(a[1], b[1]),
+        of(a[2], b[2]),
+        of(a[3], b[3]),
+        of(a[4], b[4]),
+    ]
+}
 
 pub fn sum(a: [u32; 5], b: [u32; 5]) -> [u32; 5]
     ensures { result ≡ a +ₑ b }
 {
-    [
-        word::add(a[0], b[0]),
-        word::add(a[1], b[1]),
-        word::add(a[2], b[2]),
-        word::add(a[3], b[3]),
-        word::add(a[4], b[4]),
-    ]
+    by_place(a, b, word::add)
 }
 
 pub fn difference(a: [u32; 5], b: [u32; 5]) -> [u32; 5]
     ensures { result ≡ a -ₑ b }
 {
-    [
-        word::sub(a[0], b[0]),
-        word::sub(a[1], b[1]),
-        word::sub(a[2], b[2]),
-        word::sub(a[3], b[3]),
-        word::sub(a[4], b[4]),
-    ]
+    by_place(a, b, word::sub)
 }
 
 // A word times an element. Most are flags, and take no product.
 pub fn scale(x: u32, a: [u32; 5]) -> [u32; 5]
     ensures { result ≡ x ·ₑ a }
 {
-    if x == 0 {
-        return [0, 0, 0, 0, 0];
+    match x {
+        0 => [0; 5],
+        1 => sum(a, [0; 5]),
+        _ => by_place([x; 5], a, word::mul),
     }
-    if x == 1 {
-        return sum(a, [0, 0, 0, 0, 0]);
-    }
-    [
-        word::mul(x, a[0]),
-        word::mul(x, a[1]),
-        word::mul(x, a[2]),
-        word::mul(x, a[3]),
-        word::mul(x, a[4]),
-    ]
 }
 
 // peq: a·b + (1 - a)(1 - b) is 2·a·b + 1 - (a + b), by one product.

@@ -12,8 +12,7 @@ pub fn none(op: Op) -> [u32; 5]
     ensures { result ≡ nothing op }
 {
     match op {
-        Op::Add => [0, 0, 0, 0, 0],
-        Op::Mul => [0, 0, 0, 0, 0],
+        Op::Add | Op::Mul => [0; 5],
         Op::Peq => [1, 0, 0, 0, 0],
     }
 }
@@ -32,8 +31,7 @@ fn join(op: Op, term: [u32; 5], rest: [u32; 5]) -> [u32; 5]
     ensures { result ≡ joined op term rest }
 {
     match op {
-        Op::Add => sum(term, rest),
-        Op::Mul => sum(term, rest),
+        Op::Add | Op::Mul => sum(term, rest),
         Op::Peq => product(term, rest),
     }
 }

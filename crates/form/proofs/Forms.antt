@@ -8,15 +8,14 @@ use native.Mathlib.Omega.{arith}
 use lib.Dec.{eqb}
 use borrow.Author.Tests.{eqb-true, leb-true}
 use Rattle.word.proofs.Tests.{by_test, either, each}
-use Rattle.form.specs.Data.{Call, None, Of, read_data}
+use Rattle.form.specs.Data.{Call, None as NoCall, Of, read_data}
 use Rattle.form.specs.Form.{flag, flags_fit, opcode, plain, is_add, is_mul, is_deref, is_jump, operand_of, form_of, extension_of, decode_of, is_well, well_formed}
 use Rattle.form.specs.Opcodes.{is_call}
 use Rattle.form.specs.declared.Instruction.{Instruction}
 use Rattle.form.specs.declared.Kind.{Kind}
 use Rattle.form.specs.declared.Kind.TheVariants.{Add, Mul, Deref, Jump, Extension}
 use Rattle.form.specs.declared.Form.{Form}
-use Rattle.form.specs.declared.Decoded.{Decoded}
-use Rattle.form.specs.declared.Decoded.TheVariants.{Malformed, Well}
+use Rattle.std.specs.Prelude.{Option, Some, None}
 
 -- each flag is 0 or 1, and of two that exclude each other one is 0
 pub record Flags (i : Instruction) : Type 0 where
@@ -50,9 +49,9 @@ pub record Formed (i : Instruction) (f : Form) : Type 0 where
   pub b_is : f.b ≡ operand_of i.fb i.fpab i.b
   pub c_is : f.c ≡ operand_of i.fc i.fpc i.c
 
-abbrev Says : Instruction → Decoded → Type 0
-Says i Malformed = Unit {0}
-Says i (Well f) = Formed i f
+abbrev Says : Instruction → Option Form → Type 0
+Says i None = Unit {0}
+Says i (Some f) = Formed i f
 
 one_at_most : (x y : ℕ) → flag x ≡ true → flag y ≡ true → eqb x 0 || eqb y 0 ≡ true → x + y ≤ 1
 one_at_most x y p q = either (eqb x 0) (eqb y 0) (λ e. omega (arith, leb-true x 1 p, leb-true y 1 q, eqb-true x 0 e)) (λ e. omega (arith, leb-true x 1 p, leb-true y 1 q, eqb-true y 0 e))
@@ -102,7 +101,7 @@ module _ (i : Instruction) where
         formed Jump (opcode_of 0 1 0 o, plain_of p, eqb-true _ _ fc)
 
     extended : opcode i 0 0 0 ≡ true → (c : Call) → read_data i.«data» ≡ c → Says i (extension_of i c)
-    extended o None e = tt
+    extended o NoCall e = tt
     extended o (Of op be n) e = formed (Extension op be n) (opcode_of 0 0 0 o, e)
 
   decided : Says i (decode_of i)
@@ -117,18 +116,18 @@ module _ (i : Instruction) where
       (λ _. tt)
 
   -- an instruction is malformed exactly where it isn't well-formed
-  pub malformed : decode_of i ≡ Malformed → well_formed i ≡ false
+  pub malformed : decode_of i ≡ None → well_formed i ≡ false
   malformed e = ap is_well e
 
-  pub not_well_formed : well_formed i ≡ false → decode_of i ≡ Malformed
+  pub not_well_formed : well_formed i ≡ false → decode_of i ≡ None
   not_well_formed = only (decode_of i)
     where
-      only : (d : Decoded) → is_well d ≡ false → d ≡ Malformed
-      only Malformed not = refl
-      only (Well f) not = absurd (true≢false not)
+      only : (d : Option Form) → is_well d ≡ false → d ≡ None
+      only None not = refl
+      only (Some f) not = absurd (true≢false not)
 
   -- what a form tells of its instruction
-  pub formed_of : (f : Form) → decode_of i ≡ Well f → Formed i f
+  pub formed_of : (f : Form) → decode_of i ≡ Some f → Formed i f
   formed_of f e = rw e at decided
 
   -- and what of an instruction gives it a form
@@ -144,17 +143,17 @@ module _ (i : Instruction) where
   pub one_kind : (k k' : Kind) → flags_fit i ≡ true → Words i k → Words i k' → k ≡ k'
   one_kind k k' fit w w' = ap kind_of (sym (decodes k fit w) ∙ decodes k' fit w')
     where
-      kind_of : Decoded → Kind
-      kind_of Malformed = k
-      kind_of (Well f) = f.kind
+      kind_of : Option Form → Kind
+      kind_of None = k
+      kind_of (Some f) = f.kind
 
   -- a well-formed instruction has a form
-  pub well : well_formed i ≡ true → (f : Form) × (decode_of i ≡ Well f)
+  pub well : well_formed i ≡ true → (f : Form) × (decode_of i ≡ Some f)
   well = some (decode_of i)
     where
-      some : (d : Decoded) → is_well d ≡ true → (f : Form) × (d ≡ Well f)
-      some Malformed fits = absurd (false≢true fits)
-      some (Well f) fits = (f, refl)
+      some : (d : Option Form) → is_well d ≡ true → (f : Form) × (d ≡ Some f)
+      some None fits = absurd (false≢true fits)
+      some (Some f) fits = (f, refl)
 
   -- the tests by which an instruction is known to be well-formed
   pub form_tests : flags_fit i && (is_add i || is_mul i || is_deref i || is_jump i || (opcode i 0 0 0 && is_call (read_data i.«data»))) ≡ well_formed i
@@ -163,12 +162,12 @@ module _ (i : Instruction) where
     where
       same : (fit a m d j o : Bool) (c : Call)
           → fit && (a || m || d || j || (o && is_call c))
-          ≡ is_well (cond fit (cond a (form_of i Add) (cond m (form_of i Mul) (cond d (form_of i Deref) (cond j (form_of i Jump) (cond o (extension_of i c) Malformed))))) Malformed)
+          ≡ is_well (cond fit (cond a (form_of i Add) (cond m (form_of i Mul) (cond d (form_of i Deref) (cond j (form_of i Jump) (cond o (extension_of i c) None))))) None)
       same false a m d j o c = refl
       same true true m d j o c = refl
       same true false true d j o c = refl
       same true false false true j o c = refl
       same true false false false true o c = refl
       same true false false false false false c = refl
-      same true false false false false true None = refl
+      same true false false false false true NoCall = refl
       same true false false false false true (Of op be n) = refl

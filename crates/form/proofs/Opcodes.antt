@@ -14,7 +14,7 @@ use Rattle.form.specs.declared.Op.{Op}
 use Rattle.form.specs.declared.Op.TheVariants as op
 use Rattle.form.specs.declared.Kind.{Kind}
 use Rattle.form.specs.declared.Kind.TheVariants.{Add, Mul, Deref, Jump, Extension}
-use Rattle.form.specs.declared.Decoded.TheVariants.{Well}
+use Rattle.std.specs.Prelude.{Some}
 
 extended : (op : Op) (be : Bool) (n : ℕ) → extension_by (data_word op be n) ≡ Extension op be n
 extended o be n = rw ((parts o be n).0, (parts o be n).1) (own o be)
@@ -34,8 +34,8 @@ of_words i Deref (o, p, fa, fb) = rw o.aux_is
 of_words i Jump (o, p, fc) = rw (o.mul_is, o.jump_is, o.aux_is)
 of_words i (Extension op be n) (o, e) = rw (o.mul_is, o.jump_is, o.aux_is, ← (reads _ op be n e).word) (extended op be n)
 
-pub known : (i : Instruction) → well_formed i ≡ true → form_of i (kind_by i) ≡ decode_of i
+pub known : (i : Instruction) → well_formed i ≡ true → decode_of i ≡ form_of i (kind_by i)
 known i fits =
     let (f, e) = well i fits in
     let formed = formed_of i f e in
-    ap (form_of i) (of_words i f.kind formed.words) ∙ sym (e ∙ λ j. Well (record { kind = f.kind; a = formed.a_is j; b = formed.b_is j; c = formed.c_is j }))
+    (e ∙ λ j. Some (record { kind = f.kind; a = formed.a_is j; b = formed.b_is j; c = formed.c_is j })) ∙ sym (ap (form_of i) (of_words i f.kind formed.words))

@@ -1,14 +1,13 @@
 -- Document 01, "Well-formed instructions", and what a well-formed one is: one of five kinds, with three operands.
--- Declared in src/: Instruction, Mode, Operand, Kind, Decoded (here).
-use Rattle.std.specs.Prelude.{ℕ, Bool, true, false, cond, ◌&&◌, ◌||◌, leb, eqb}
-use Rattle.form.specs.Data.{Call, None, Of, read_data}
+-- Declared in src/: Instruction, Mode, Operand, Kind, Form (here).
+use Rattle.std.specs.Prelude.{ℕ, Bool, true, false, cond, ◌&&◌, ◌||◌, leb, eqb, Option, Some, None}
+use Rattle.form.specs.Data.{Call, None as NoCall, Of, read_data}
 use Rattle.form.specs.declared.Instruction.{Instruction}
 use Rattle.form.specs.declared.Mode.TheVariants.{Immediate, Cell, Frame}
 use Rattle.form.specs.declared.Operand.{Operand}
 use Rattle.form.specs.declared.Kind.{Kind}
 use Rattle.form.specs.declared.Kind.TheVariants.{Add, Mul, Deref, Jump, Extension}
-use Rattle.form.specs.declared.Decoded.{Decoded}
-use Rattle.form.specs.declared.Decoded.TheVariants.{Malformed, Well}
+use Rattle.form.specs.declared.Form.{Form}
 
 abbrev pub flag : ℕ → Bool
 flag x = leb x 1
@@ -45,9 +44,9 @@ is_jump i = opcode i 0 1 0 && plain i && eqb i.fc 0
 abbrev pub operand_of : ℕ → ℕ → ℕ → Operand
 operand_of flag fp word = record { mode = cond (eqb flag 1) Immediate (cond (eqb fp 1) Frame Cell); word = word }
 
-abbrev pub form_of : Instruction → Kind → Decoded
+abbrev pub form_of : Instruction → Kind → Option Form
 form_of i kind =
-    Well
+    Some
     (record {
       kind = kind;
       a = operand_of i.fa i.fpab i.a;
@@ -55,27 +54,27 @@ form_of i kind =
       c = operand_of i.fc i.fpc i.c;
     })
 
-abbrev pub extension_of : Instruction → Call → Decoded
-extension_of i None = Malformed
+abbrev pub extension_of : Instruction → Call → Option Form
+extension_of i NoCall = None
 extension_of i (Of op be n) = form_of i (Extension op be n)
 
 -- an instruction whose flags fit, by its kind
-abbrev pub by_kind : Instruction → Decoded
+abbrev pub by_kind : Instruction → Option Form
 by_kind i =
     cond (is_add i) (form_of i Add)
     (cond (is_mul i) (form_of i Mul)
     (cond (is_deref i) (form_of i Deref)
     (cond (is_jump i) (form_of i Jump)
     (cond (opcode i 0 0 0) (extension_of i (read_data i.«data»))
-    Malformed))))
+    None))))
 
--- the form of an instruction, or that it is malformed
-unfoldable pub decode_of : Instruction → Decoded
-decode_of i = cond (flags_fit i) (by_kind i) Malformed
+-- the form of an instruction; a malformed one has none
+unfoldable pub decode_of : Instruction → Option Form
+decode_of i = cond (flags_fit i) (by_kind i) None
 
-abbrev pub is_well : Decoded → Bool
-is_well Malformed = false
-is_well (Well f) = true
+abbrev pub is_well : Option Form → Bool
+is_well None = false
+is_well (Some f) = true
 
 -- an instruction is well-formed where it has a form
 abbrev pub well_formed : Instruction → Bool

@@ -1,6 +1,6 @@
 // DATA both ways.
 ghost use Rattle.std.specs.Prelude.{◌≡◌, ◌≤◌};
-ghost use Rattle.form.specs.Data.{bit, data_word, read_data};
+ghost use Rattle.form.specs.Data.{data_word, read_data};
 ghost use Rattle.form.specs.Opcodes.{is_call, op_by, extension_by};
 
 use crate::{Kind, Op};
@@ -8,17 +8,11 @@ use crate::{Kind, Op};
 // The largest number of elements, 2^20.
 const MOST: u32 = 1048576;
 
-fn bit_of(b: bool) -> u64
-    ensures { (result ≡ bit b) × (result ≤ 1) }
-{
-    if b { 1 } else { 0 }
-}
-
 // The DATA of an operation on n elements.
 pub fn data_word(op: Op, be: bool, n: u32) -> u64
     ensures { result ≡ data_word op be n }
 {
-    let rest = 2 * bit_of(be) + 32 * (n as u64);
+    let rest = 2 * u64::from(be) + 32 * u64::from(n);
     match op {
         Op::Add => rest + 4,
         Op::Mul => rest + 8,
@@ -32,9 +26,7 @@ pub(crate) fn is_data(data: u32) -> bool
 {
     let n = data / 32;
     let rest = data % 32;
-    (1 <= n)
-        & (n <= MOST)
-        & ((rest == 4) | (rest == 6) | (rest == 8) | (rest == 10) | (rest == 16) | (rest == 18))
+    (1 <= n) & (n <= MOST) & matches!(rest, 4 | 6 | 8 | 10 | 16 | 18)
 }
 
 fn op_by(rest: u32) -> Op

@@ -4,27 +4,19 @@ ghost use Rattle.form.specs.Form.{operand_of, well_formed, decode_of};
 ghost use Rattle.form.specs.Opcodes.{kind_by};
 
 use crate::data::extension_by;
-use crate::{Decoded, Form, Instruction, Kind, Mode, Operand};
+use crate::{Form, Instruction, Kind, Mode, Operand};
 
 fn operand_of(flag: u32, fp: u32, word: u32) -> Operand
     ensures { result ≡ operand_of flag fp word }
 {
-    if flag == 1 {
-        return Operand {
-            mode: Mode::Immediate,
-            word,
-        };
-    }
-    if fp == 1 {
-        return Operand {
-            mode: Mode::Frame,
-            word,
-        };
-    }
-    Operand {
-        mode: Mode::Cell,
-        word,
-    }
+    let mode = if flag == 1 {
+        Mode::Immediate
+    } else if fp == 1 {
+        Mode::Frame
+    } else {
+        Mode::Cell
+    };
+    Operand { mode, word }
 }
 
 // By the opcode words alone.
@@ -46,13 +38,14 @@ fn kind_by(i: Instruction) -> Kind
     extension_by(i.data)
 }
 
-pub fn decode_known(i: Instruction) -> Decoded
+pub fn decode_known(i: Instruction) -> Form
     requires { well_formed i ≡ true }
-    ensures { result ≡ decode_of i }
+    ensures { decode_of i ≡ Some result }
 {
-    let kind = kind_by(i);
-    let a = operand_of(i.fa, i.fpab, i.a);
-    let b = operand_of(i.fb, i.fpab, i.b);
-    let c = operand_of(i.fc, i.fpc, i.c);
-    Decoded::Well(Form { kind, a, b, c })
+    Form {
+        kind: kind_by(i),
+        a: operand_of(i.fa, i.fpab, i.a),
+        b: operand_of(i.fb, i.fpab, i.b),
+        c: operand_of(i.fc, i.fpc, i.c),
+    }
 }

@@ -29,7 +29,7 @@ pub struct Instruction {
 }
 
 // What an extension instruction does with its elements.
-#[derive(Clone, Copy)]
+#[derive(Clone, Copy, PartialEq, Eq)]
 pub enum Op {
     Add,
     Mul,
@@ -65,10 +65,4 @@ pub struct Form {
     pub a: Operand,
     pub b: Operand,
     pub c: Operand,
-}
-
-#[derive(Drop)]
-pub enum Decoded {
-    Malformed,
-    Well(Form),
 }

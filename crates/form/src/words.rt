@@ -6,6 +6,7 @@ use crate::Instruction;
 use word::word_inside;
 
 // An instruction whose 48 bytes are there: it is read with no test.
+// stays: one line a word, in document 01's order; an array of the words read first would name each of them twice
 pub fn instruction_inside(s: &[u8], at: usize) -> Instruction
     requires { at + 48 ≤ length s.now }
     ensures { result ≡ instruction_at s.now at }

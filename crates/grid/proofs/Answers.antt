@@ -7,8 +7,7 @@ use Prim.Native.Nat.{ℕ, ◌+◌, ◌≤◌}
 use lib.Dec.{leb}
 use borrow.Author.Tests.{leb-true, leb-false}
 use Rattle.answer.specs.Verdicts.{accepted}
-use Rattle.answer.specs.declared.Answer.{Answer}
-use Rattle.answer.specs.declared.Answer.TheVariants.{Accepted, Grid}
+use Rattle.answer.specs.Answers.{Answer, Accepted, Grid}
 use Rattle.answer.proofs.Named.{accepted_is}
 use Rattle.rules.specs.Sizes.{Parts, given_of, tables_of, given, tables}
 use Rattle.judge_spec.specs.Judged.{judge_of}
@@ -39,12 +38,15 @@ module _ (grid : List ℕ) (q : Parts) (a : Answer) (told : a ≡ judge_of q) wh
         (sym e, sym (refusal_keeps grid q (ap accepted e)))
 
     -- what counting the rows asks for, and what it gives
-    pub ready : leb (sum_of grid + (tables_of q).height) limit ≡ true → Listed q.program q.exec × (sum_of grid + (tables_of q).height ≤ limit)
-    ready under = (accepted_listed q (accepted_is (judge_of q) judged), leb-true (sum_of grid + (tables_of q).height) limit under)
+    pub listed : Listed q.program q.exec
+    listed = accepted_listed q (accepted_is (judge_of q) judged)
+
+    pub room : leb (sum_of grid + (tables_of q).height) limit ≡ true → sum_of grid + (tables_of q).height ≤ limit
+    room under = leb-true (sum_of grid + (tables_of q).height) limit under
 
     pub counted : leb (sum_of grid + (tables_of q).height) limit ≡ true → (after : List ℕ)
         → after ≡ with_rows grid (given q.program []) (tables q.exec [])
         → (Accepted ≡ count_answer grid q) × (after ≡ count_grid grid q)
     counted under after rows =
-        let e = within grid q judged (ready under).1 in
+        let e = within grid q judged (room under) in
         (sym e, rows ∙ rows_alone grid q ∙ sym (counts_rows grid q (ap accepted e)))

@@ -1,4 +1,4 @@
-// Form counts over a campaign, document 02, M-100: the grid by value, and what a table adds to it.
+// Form counts over a campaign, document 02, M-100: the grid, and what a table adds to it.
 #![tactic(auto)]
 
 mod counting;
@@ -6,15 +6,9 @@ mod counting;
 ghost use Rattle.std.specs.Prelude.{◌≡◌, ◌+◌, leb};
 ghost use Rattle.grid_spec.specs.Grid.{fresh, sum_of, limit, count_answer, count_grid};
 
-use answer::{Answer, accepted};
+use answer::{Answer, Refusal};
+use bus_tuples::ListedRows;
 use counting::count_rows;
-
-// The judge's answer, or GRID, and the grid beside it.
-#[derive(Drop)]
-pub struct Counted {
-    pub grid: [u64; 135],
-    pub answer: Answer,
-}
 
 // Every counter is zero.
 pub fn fresh() -> [u64; 135]
@@ -25,64 +19,53 @@ pub fn fresh() -> [u64; 135]
 
 // Whether the total and the rows to come stay within the limit. The total may be any number, so it is taken from the
 // limit and never summed.
-fn has_room(grid: [u64; 135], rows: u64) -> bool
-    ensures { result ≡ leb (sum_of grid + rows) limit }
+fn has_room(grid: &[u64; 135], rows: u64) -> bool
+    ensures { result ≡ leb (sum_of grid.now + rows) limit }
 {
-    if 9223372036854775807 < rows {
+    let Some(mut left) = 9223372036854775807u64.checked_sub(rows) else {
         return false;
-    }
-    let mut left = 9223372036854775807 - rows;
-    let mut k = 0;
-    while k < 135 {
-        let x = grid[k];
-        if left < x {
-            return false;
+    };
+    for x in grid {
+        match left.checked_sub(*x) {
+            Some(rest) => left = rest,
+            None => return false,
         }
-        left -= x;
-        k += 1;
     }
     true
 }
 
-// One more for each execution row of an accepted table. GRID is tested last.
+// One more for each execution row of an accepted table. GRID is tested last, and a refusal leaves the grid as it came.
 pub fn count(
-    grid: [u64; 135],
+    grid: &mut [u64; 135],
     program: &[u8],
     memory: &[u8],
     pc: u64,
     fp: u64,
     exec: &[u8],
     ext: &[u8],
-) -> Counted
-    ensures { (result.answer ≡ count_answer grid (record {
+) -> Answer
+    ensures value { result ≡ count_answer grid.old (record {
       program = program.entry.now;
       memory = memory.now;
       exec = exec.now;
       ext = ext.now;
       pc = pc;
       fp = fp;
-    }))
-        × (result.grid ≡ count_grid grid (record {
-          program = program.entry.now;
-          memory = memory.now;
-          exec = exec.now;
-          ext = ext.now;
-          pc = pc;
-          fp = fp;
-        })) }
+    }) }
+    ensures grid_after { grid.new ≡ count_grid grid.old (record {
+      program = program.entry.now;
+      memory = memory.now;
+      exec = exec.now;
+      ext = ext.now;
+      pc = pc;
+      fp = fp;
+    }) }
 {
-    let answer = judge::judge(program, memory, pc, fp, exec, ext);
-    if !accepted(answer) {
-        return Counted { grid, answer };
-    }
+    judge::judge(program, memory, pc, fp, exec, ext)?;
+    let rows = ListedRows { program, exec };
     if !has_room(grid, (exec.len() / 32) as u64) {
-        return Counted {
-            grid,
-            answer: Answer::Grid,
-        };
+        return Err(Refusal::Grid);
     }
-    Counted {
-        grid: count_rows(grid, program, exec),
-        answer: Answer::Accepted,
-    }
+    count_rows(grid, &rows);
+    Ok(())
 }

@@ -1,14 +1,13 @@
 -- A grid that is written reads back, and zeros are a fresh grid.
 -- Assumes nothing.
 use mathlib.Core.Path.{◌≡◌, refl, sym, ap, ◌∙◌}
-use mathlib.Core.List.{List, [], ◌∷◌, ◌++◌}
-use Prim.Native.Nat.{ℕ, ◌+◌, ◌*◌, ◌^◌, ◌<◌}
+use mathlib.Core.List.{List}
+use Prim.Native.Nat.{ℕ, ◌*◌, ◌^◌, ◌<◌}
 use native.Mathlib.Nat.{add-zero}
-use native.Mathlib.Omega.{arith}
 use lib.Dec.{lit<}
 use lib.ListN.{length, get_or, replicate}
 use Rattle.word.specs.Bytes.{word_at, concatenated}
-use Rattle.word.proofs.Concatenated.{parts_length, parts_same, word_in}
+use Rattle.word.proofs.Concatenated.{parts_length, word_in}
 use Rattle.long.specs.Long.{long_at, long_bytes}
 use Rattle.long.proofs.EightBytes.{read_long}
 use Rattle.grid_spec.specs.Grid.{fresh}

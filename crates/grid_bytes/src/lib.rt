@@ -11,10 +11,8 @@ pub fn read_grid(bytes: &[u8]) -> [u64; 135]
     ensures { result ≡ grid_of bytes.now }
 {
     let mut grid = [0; 135];
-    let mut k = 0;
-    while k < 135 {
+    for k in 0..135 {
         grid[k] = long_inside(bytes, 8 * k);
-        k += 1;
     }
     grid
 }
@@ -23,9 +21,7 @@ pub fn write_grid(bytes: &mut [u8], grid: [u64; 135])
     requires { length bytes.old ≡ 1080 }
     ensures { bytes.new ≡ grid_bytes grid }
 {
-    let mut k = 0;
-    while k < 135 {
-        put_long(bytes, 8 * k, grid[k]);
-        k += 1;
+    for (k, counter) in grid.iter().enumerate() {
+        put_long(bytes, 8 * k, *counter);
     }
 }

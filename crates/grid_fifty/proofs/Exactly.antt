@@ -9,7 +9,7 @@ use native.Mathlib.Omega.{arith}
 use lib.ListN.{length, get_or}
 use Rattle.word.proofs.Tests.{cases, by_test}
 use Rattle.answer.specs.Verdicts.{accepted}
-use Rattle.answer.specs.declared.Answer.TheVariants.{Accepted}
+use Rattle.answer.specs.Answers.{Accepted}
 use Rattle.answer.proofs.Named.{accepted_is}
 use Rattle.rules.specs.Sizes.{Parts, tables_of}
 use Rattle.judge_spec.specs.Judged.{judge_of}

@@ -8,7 +8,7 @@ use native.Mathlib.Omega.{arith}
 use lib.Dec.{eqb}
 use borrow.Author.Tests.{eqb-true}
 use Rattle.word.proofs.Tests.{by_test, by_order}
-use Rattle.answer.specs.declared.Answer.TheVariants.{Accepted}
+use Rattle.answer.specs.Answers.{Accepted}
 use Rattle.form.specs.Form.{decode_of, well_formed, operand_of}
 use Rattle.form.specs.declared.Instruction.{Instruction}
 use Rattle.form.specs.declared.Kind.{Kind}
@@ -16,7 +16,7 @@ use Rattle.form.specs.declared.Kind.TheVariants.{Add, Mul, Deref, Jump, Extensio
 use Rattle.form.specs.declared.Mode.{Mode}
 use Rattle.form.specs.declared.Mode.TheVariants.{Immediate, Cell, Frame}
 use Rattle.form.specs.declared.Form.{Form}
-use Rattle.form.specs.declared.Decoded.TheVariants.{Well}
+use Rattle.std.specs.Prelude.{Some}
 use Rattle.form.proofs.Forms.{Flags, Words, formed_of, well}
 use Rattle.rules.specs.Sizes.{Parts, given_of, tables_of}
 use Rattle.rules.specs.Bus.{instruction_of}
@@ -79,7 +79,7 @@ module _ (i : Instruction) where
       rw (framed, fa, fb))
 
   -- so the form of an instruction is, and the counter of a well-formed one
-  form_possible : (f : Form) → decode_of i ≡ Well f → possible f.kind f.a.mode f.b.mode f.c.mode ≡ true
+  form_possible : (f : Form) → decode_of i ≡ Some f → possible f.kind f.a.mode f.b.mode f.c.mode ≡ true
   form_possible f e =
       let formed = formed_of i f e in
       rw (formed.a_is, formed.b_is, formed.c_is) (kind_possible f.kind formed.flags formed.words)

@@ -11,7 +11,7 @@ use borrow.Author.Tests.{eqb-true, eq-eqb, leb-true, ltb-true}
 use Rattle.word.specs.Word.{p, ◌+ₚ◌, ◌*ₚ◌}
 use Rattle.word.specs.Element.{◌+ₑ◌}
 use Rattle.word.proofs.Tests.{Each, each, alls, from_true}
-use Rattle.answer.specs.declared.Answer.TheVariants.{Accepted}
+use Rattle.answer.specs.Answers.{Accepted}
 use Rattle.form.specs.Data.{read_data}
 use Rattle.form.specs.Form.{decode_of, well_formed}
 use Rattle.form.specs.Instruction.{instruction_at}

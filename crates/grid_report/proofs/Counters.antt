@@ -11,8 +11,7 @@ use lib.ListN.{length, get_or, drop, replicate, length-append}
 use Rattle.word.specs.Bytes.{concatenated}
 use Rattle.word.proofs.Concatenated.{parts_append, parts_one}
 use Rattle.rules.specs.Bus.{total}
-use Rattle.answer.specs.declared.Answer.{Answer}
-use Rattle.answer.specs.declared.Answer.TheVariants.{Accepted, Size}
+use Rattle.answer.specs.Answers.{Answer, Accepted, Size}
 use Rattle.lines.specs.Line.{line, decimal, decimal_in, line_of}
 use Rattle.lines.proofs.Numbers.{line_most}
 use Rattle.grid_spec.specs.Report.{name_of, line_at, report_of, report_answer, report_length, reported_in}

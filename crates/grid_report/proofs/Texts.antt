@@ -1,58 +1,46 @@
--- A counter's name is four of the texts that the code has.
+-- A counter's name: its four texts, and how long it is.
 -- Assumes nothing.
-use Prim.Native.Nat.{ℕ, zero, suc, ◌+◌, ◌/◌, ◌%◌, ◌≤◌, ◌<◌}
-use mathlib.Core.List.{◌++◌}
-use mathlib.Core.Logic.{⊎_elim}
-use mathlib.Core.Path.{◌≡◌, refl}
-use native.Mathlib.Nat.{not-suc-le-zero, le_of_suc-le-suc, eq-or-lt_of_le}
+use Prim.Native.Nat.{ℕ, ◌+◌, ◌/◌, ◌%◌, ◌≤◌, ◌<◌}
+use mathlib.Core.List.{List, ◌++◌}
+use mathlib.Core.Path.{◌≡◌, refl, ◌∙◌}
 use native.Mathlib.Omega.{arith}
-use borrow.Author.Rules.{rules}
 use borrow.Author.Tests.{leb-true}
 use lib.Dec.{leb}
-use lib.ListN.{length, get_or, length-append}
+use lib.ListN.{length, length-append}
 use Rattle.text_fields.specs.Digit.{every}
 use Rattle.text_fields.proofs.Every.{every_at}
+use Rattle.lines.specs.Putting.{Room, Put}
+use Rattle.lines.specs.declared.Out.{Out}
+use Rattle.lines.proofs.Putting.{put_next}
 use Rattle.grid_spec.specs.Report.{kind_text, mode_text, dotted, equals, name_of}
-use Rattle.grid_report.specs.Texts.{starts, text_of}
 
--- a fact for each number below n
-Each : (ℕ → Type 0) → ℕ → Type 0
-Each P zero = Unit
-Each P (suc n) = P n × Each P n
+module _ (k : ℕ) where
+  abbrev first : List ℕ
+  first = dotted (kind_text (k / 27))
 
-each : (P : ℕ → Type 0) (n : ℕ) → Each P n → (i : ℕ) → i < n → P i
-unfolding Each
-each P zero all i h = absurd (not-suc-le-zero h)
-each P (suc n) all i h = ⊎_elim (λ e. rw e all.0) (λ l. each P n all.1 i l) (eq-or-lt_of_le (le_of_suc-le-suc h))
+  abbrev second : List ℕ
+  second = dotted (mode_text (k / 9 % 3))
 
-pub in_order : (i : ℕ) → i < 11 → (get_or starts i 0 ≤ get_or starts (i + 1) 0) × (get_or starts (i + 1) 0 ≤ 47)
-unfolding Each
-in_order = each (λ i. (get_or starts i 0 ≤ get_or starts (i + 1) 0) × (get_or starts (i + 1) 0 ≤ 47)) 11 (search rules)
+  abbrev third : List ℕ
+  third = dotted (mode_text (k / 3 % 3))
 
-kind_text_lem : (i : ℕ) → i < 5 → text_of i ≡ dotted (kind_text i)
-unfolding Each text_of
-kind_text_lem = each (λ i. text_of i ≡ dotted (kind_text i)) 5 (search rules)
+  abbrev fourth : List ℕ
+  fourth = equals (mode_text (k % 3))
 
-mode_text_lem : (i : ℕ) → i < 3 → (text_of (5 + i) ≡ dotted (mode_text i)) × (text_of (8 + i) ≡ equals (mode_text i))
-unfolding Each text_of
-mode_text_lem =
-    each (λ i. (text_of (5 + i) ≡ dotted (mode_text i)) × (text_of (8 + i) ≡ equals (mode_text i))) 3 (search rules)
-
-module _ (k : ℕ) (h : k < 135) where
-  pub name_made : text_of (k / 27) ++ text_of (5 + k / 9 % 3) ++ text_of (5 + k / 3 % 3) ++ text_of (8 + k % 3) ≡ name_of k
+  pub name_length : length (name_of k) ≡ length first + length second + length third + length fourth
   unfolding name_of
-  name_made =
-      rw (
-        kind_text_lem (k / 27) (omega arith),
-        (mode_text_lem (k / 9 % 3) (omega arith)).0,
-        (mode_text_lem (k / 3 % 3) (omega arith)).0,
-        (mode_text_lem (k % 3) (omega arith)).1,
-      )
+  name_length =
+      length-append (first ++ second ++ third) fourth
+      ∙ omega (arith, length-append (first ++ second) third, length-append first second)
 
-  pub name_length : length (name_of k)
-      ≡ length (text_of (k / 27)) + length (text_of (5 + k / 9 % 3)) + length (text_of (5 + k / 3 % 3)) + length (text_of (8 + k % 3))
-  name_length = rw (← name_made) (simp length-append)
+  pub name_put : {a b c d e : Out} → Room a (name_of k) → Put a first b → Put b second c → Put c third d → Put d fourth e → Put a (name_of k) e
+  unfolding name_of
+  name_put room f g h i =
+      let two = length-append first second in
+      let three = length-append (first ++ second) third in
+      let four = length-append (first ++ second ++ third) fourth in
+      put_next room (put_next (omega arith) (put_next (omega arith) f g) h) i
 
-  pub name_most : length (name_of k) ≤ 21
+  pub name_most : k < 135 → length (name_of k) ≤ 21
   unfolding name_of every
-  name_most = leb-true (length (name_of k)) 21 (every_at (λ j. leb (length (name_of j)) 21) 135 k h refl)
+  name_most h = leb-true (length (name_of k)) 21 (every_at (λ j. leb (length (name_of j)) 21) 135 k h refl)

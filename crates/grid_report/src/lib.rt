@@ -3,33 +3,26 @@
 
 mod names;
 
-ghost use Rattle.std.specs.Prelude.{◌++◌, ◌≡◌, ◌+◌, ◌≤◌, ◌<◌, length, drop};
-ghost use Rattle.lines.specs.Line.{over};
+ghost use Rattle.std.specs.Prelude.{◌≡◌, ◌≤◌, ◌<◌, length};
+ghost use Rattle.answer.specs.Answers.{answer_of, number_of};
+ghost use Rattle.lines.specs.Putting.{Room, Put};
 ghost use Rattle.grid_spec.specs.Report.{line_at, report_of, report_answer, report_length, reported_in};
 
-use answer::Answer;
-use lines::put_line;
+use answer::Refusal;
+use lines::Out;
 use names::put_name;
 
-// What printing a report did: the bytes written, 0 where it was refused.
-#[derive(Drop)]
-pub struct Reported {
-    pub answer: Answer,
-    pub length: u64,
-}
-
-// A counter's line from a byte of the buffer on, and where it ends; a zero counter has none.
-fn put_counter(grid: &[u64; 135], k: usize, at: usize, out: &mut [u8]) -> usize
-    requires { (k < 135) × (at + length (line_at grid.now k) ≤ length out.old) }
-    ensures { (result ≡ at + length (line_at grid.now k))
-        × (out.new ≡ over out.old at (line_at grid.now k)) }
+// A counter's line; a zero counter has none.
+fn put_counter(grid: &[u64; 135], k: usize, out: &mut Out)
+    requires { (k < 135) × Room out.old (line_at grid.now k) }
+    ensures { Put out.old (line_at grid.now k) out.new }
 {
     let number = grid[k];
     if number == 0 {
-        return at;
+        return;
     }
-    let middle = put_name(k, at, out);
-    put_line(b"", number, middle, out)
+    put_name(k, out);
+    out.put_line(b"", number);
 }
 
 // The report's length: each line is put once where nobody reads it, so that lengths have no code of their own.
@@ -38,46 +31,41 @@ fn needed(grid: &[u64; 135]) -> usize
 {
     let mut longest = [0u8; 42];
     let mut size = 0;
-    let mut k = 0;
-    while k < 135 {
-        size += put_counter(grid, k, 0, &mut longest);
-        k += 1;
+    for k in 0..135 {
+        let mut out = Out {
+            bytes: &mut longest,
+            at: 0,
+        };
+        put_counter(grid, k, &mut out);
+        size += out.at;
     }
     size
 }
 
-// The lines at the buffer's start; the bytes after them stay.
-fn put_lines(grid: &[u64; 135], out: &mut [u8])
-    requires { length (report_of grid.now) ≤ length out.old }
-    ensures { out.new ≡ report_of grid.now ++ drop (length (report_of grid.now)) out.old }
+// All lines, each behind the one before it.
+fn put_lines(grid: &[u64; 135], out: &mut Out)
+    requires { Room out.old (report_of grid.now) }
+    ensures { Put out.old (report_of grid.now) out.new }
 {
-    let mut at = 0;
-    let mut k = 0;
-    while k < 135 {
-        at = put_counter(grid, k, at, out);
-        k += 1;
+    for k in 0..135 {
+        put_counter(grid, k, out);
     }
 }
 
-// A grid's report: document 02, M-100.
-pub fn report(grid: [u64; 135], text: &mut [u8]) -> Reported
-    ensures { (result.answer ≡ report_answer grid (length text.old))
-        × (result.length ≡ report_length grid (length text.old))
-        × (text.new ≡ reported_in grid text.old) }
+// A grid's report, and its length: document 02, M-100. A refusal changes no byte.
+pub fn report(grid: &[u64; 135], text: &mut [u8]) -> Result<u64, Refusal>
+    ensures value { answer_of result ≡ report_answer grid.now (length text.old) }
+    ensures written { number_of result ≡ report_length grid.now (length text.old) }
+    ensures text_after { text.new ≡ reported_in grid.now text.old }
 {
-    let size = needed(&grid);
+    let size = needed(grid);
     if text.len() < size {
-        return Reported {
-            answer: Answer::Size {
-                part: 5,
-                place: size as u32,
-            },
-            length: 0,
-        };
+        return Err(Refusal::Size {
+            part: 5,
+            place: size as u32,
+        });
     }
-    put_lines(&grid, &mut *text);
-    Reported {
-        answer: Answer::Accepted,
-        length: size as u64,
-    }
+    let mut out = Out { bytes: text, at: 0 };
+    put_lines(grid, &mut out);
+    Ok(size as u64)
 }

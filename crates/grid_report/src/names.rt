@@ -1,35 +1,54 @@
 // A counter's name, of four texts.
-ghost use Rattle.std.specs.Prelude.{◌≡◌, ◌+◌, ◌≤◌, ◌<◌, length};
-ghost use Rattle.lines.specs.Line.{over};
-ghost use Rattle.grid_spec.specs.Report.{name_of};
-ghost use Rattle.grid_report.specs.Texts.{text_of};
+ghost use Rattle.std.specs.Prelude.{[], ◌∷◌, ◌++◌, ◌≡◌, ◌<◌};
+ghost use Rattle.lines.specs.Putting.{Room, Put};
+ghost use Rattle.grid_spec.specs.Report.{kind_text, mode_text, name_of};
 
-use lines::put;
+use lines::Out;
 
-// The texts of all names, one after the other: kinds and modes before a dot, modes before =.
-const TEXTS: [u8; 47] = *b"add.mul.deref.jump.ext.imm.cell.fp.imm=cell=fp=";
-
-// Where each of them starts, and the last ends.
-const STARTS: [usize; 12] = [0, 4, 8, 14, 19, 23, 27, 32, 35, 39, 44, 47];
-
-// A text from a byte of the buffer on, and where it ends.
-fn put_text(i: usize, at: usize, out: &mut [u8]) -> usize
-    requires { (i < 11) × (at + length (text_of i) ≤ length out.old) }
-    ensures { (result ≡ at + length (text_of i)) × (out.new ≡ over out.old at (text_of i)) }
+fn kind_text(kind: usize) -> &'static [u8]
+    requires { kind < 5 }
+    ensures { result.now ≡ kind_text kind }
 {
-    let texts = TEXTS;
-    let from = STARTS[i];
-    let to = STARTS[i + 1];
-    put(&texts[from..to], at, out)
+    match kind {
+        0 => b"add",
+        1 => b"mul",
+        2 => b"deref",
+        3 => b"jump",
+        _ => b"ext",
+    }
 }
 
-// A counter's name from a byte of the buffer on, and where it ends.
-pub(crate) fn put_name(k: usize, at: usize, out: &mut [u8]) -> usize
-    requires { (k < 135) × (at + length (name_of k) ≤ length out.old) }
-    ensures { (result ≡ at + length (name_of k)) × (out.new ≡ over out.old at (name_of k)) }
+fn mode_text(mode: usize) -> &'static [u8]
+    requires { mode < 3 }
+    ensures { result.now ≡ mode_text mode }
 {
-    let a = put_text(k / 27, at, out);
-    let b = put_text(5 + k / 9 % 3, a, out);
-    let c = put_text(5 + k / 3 % 3, b, out);
-    put_text(8 + k % 3, c, out)
+    match mode {
+        0 => b"imm",
+        1 => b"cell",
+        _ => b"fp",
+    }
+}
+
+// A text and the byte that ends it.
+fn put_ended(text: &[u8], end: u8, out: &mut Out)
+    requires { Room out.old (text.now ++ (end ∷ [])) }
+    ensures { Put out.old (text.now ++ (end ∷ [])) out.new }
+{
+    out.put(text);
+    out.put(&[end]);
+}
+
+// Kind slowest and C fastest.
+pub(crate) fn put_name(k: usize, out: &mut Out)
+    requires { (k < 135) × Room out.old (name_of k) }
+    ensures { Put out.old (name_of k) out.new }
+{
+    let kind = kind_text(k / 27);
+    let a = mode_text(k / 9 % 3);
+    let b = mode_text(k / 3 % 3);
+    let c = mode_text(k % 3);
+    put_ended(kind, b'.', out);
+    put_ended(a, b'.', out);
+    put_ended(b, b'.', out);
+    put_ended(c, b'=', out);
 }

@@ -11,14 +11,14 @@ use lib.ListN.{length, get_or}
 use Rattle.word.proofs.Tests.{from_true, by_test}
 use Rattle.form.specs.Form.{decode_of, well_formed}
 use Rattle.form.specs.declared.Instruction.{Instruction}
-use Rattle.form.specs.declared.Decoded.{Decoded}
-use Rattle.form.specs.declared.Decoded.TheVariants.{Malformed, Well}
+use Rattle.form.specs.declared.Form.{Form}
+use Rattle.std.specs.Prelude.{Option, Some, None}
 use Rattle.form.specs.declared.Kind.{Kind}
 use Rattle.form.specs.declared.Kind.TheVariants.{Add, Mul, Deref, Jump, Extension}
 use Rattle.form.specs.declared.Mode.{Mode}
 use Rattle.form.specs.declared.Mode.TheVariants.{Immediate, Cell, Frame}
 use Rattle.form.specs.Form.{is_well}
-use Rattle.answer.specs.declared.Answer.TheVariants.{Accepted}
+use Rattle.answer.specs.Answers.{Accepted}
 use Rattle.rules.specs.Given.{Given, Tables}
 use Rattle.rules.specs.Bus.{total, instruction_of}
 use Rattle.rules.specs.Sizes.{Parts, given_of, tables_of}
@@ -42,9 +42,9 @@ mode_few Immediate = omega arith
 mode_few Cell = omega arith
 mode_few Frame = omega arith
 
-pub counter_few : (d : Decoded) → T (is_well d) → counter_of d < 135
-counter_few Malformed t = absurd t
-counter_few (Well f) t =
+pub counter_few : (d : Option Form) → T (is_well d) → counter_of d < 135
+counter_few None t = absurd t
+counter_few (Some f) t =
     omega (arith, kind_few f.kind, mode_few f.a.mode, mode_few f.b.mode, mode_few f.c.mode)
 
 module _ (g : Given) (t : Tables) where

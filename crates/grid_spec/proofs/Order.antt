@@ -9,7 +9,7 @@ use lib.ListN.{length, get_or}
 use lib.Seq.{ext_get_or}
 use Rattle.word.proofs.Tests.{cases, by_order}
 use Rattle.answer.specs.Verdicts.{accepted}
-use Rattle.answer.specs.declared.Answer.TheVariants.{Accepted, Grid}
+use Rattle.answer.specs.Answers.{Accepted, Grid}
 use Rattle.rules.specs.Sizes.{Parts, given_of, tables_of}
 use Rattle.judge_spec.specs.Judged.{judge_of}
 use Rattle.judge_spec.specs.Refusal.{Says}

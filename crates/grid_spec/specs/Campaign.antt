@@ -1,8 +1,7 @@
 -- Document 02, M-100: tables counted into one grid, one after the other.
--- Declared in src/: Answer (answer).
 use Rattle.std.specs.Prelude.{ℕ, ◌+◌, ◌≡◌, cond, List, [], ◌∷◌}
 use Rattle.answer.specs.Verdicts.{accepted}
-use Rattle.answer.specs.declared.Answer.TheVariants.{Grid}
+use Rattle.answer.specs.Answers.{Grid}
 use Rattle.rules.specs.Sizes.{Parts, given_of, tables_of}
 use Rattle.grid_spec.specs.Forms.{rows_of}
 use Rattle.grid_spec.specs.Grid.{count_answer, count_grid}

@@ -1,14 +1,13 @@
 -- Document 02, M-100: a grid of kind by mode of A, B and C, kind slowest and C fastest, modes in the order immediate,
 -- cell, fp-relative; and how many rows of an execution table are of a form.
--- Declared in src/: Kind, Mode, Decoded (form).
-use Rattle.std.specs.Prelude.{ℕ, ◌+◌, ◌*◌, cond, eqb}
+-- Declared in src/: Kind, Mode, Form (form).
+use Rattle.std.specs.Prelude.{ℕ, ◌+◌, ◌*◌, cond, eqb, Option, Some, None}
 use Rattle.form.specs.Form.{decode_of}
 use Rattle.form.specs.declared.Kind.{Kind}
 use Rattle.form.specs.declared.Kind.TheVariants.{Add, Mul, Deref, Jump, Extension}
 use Rattle.form.specs.declared.Mode.{Mode}
 use Rattle.form.specs.declared.Mode.TheVariants.{Immediate, Cell, Frame}
-use Rattle.form.specs.declared.Decoded.{Decoded}
-use Rattle.form.specs.declared.Decoded.TheVariants.{Malformed, Well}
+use Rattle.form.specs.declared.Form.{Form}
 use Rattle.rules.specs.Given.{Given, Tables}
 use Rattle.rules.specs.Bus.{total, instruction_of}
 
@@ -29,9 +28,9 @@ abbrev pub counter : Kind → Mode → Mode → Mode → ℕ
 counter kind a b c = 27 * kind_number kind + 9 * mode_number a + 3 * mode_number b + mode_number c
 
 -- the counter of an instruction; a malformed one has no form and no counter, and no row of an accepted table has one
-abbrev pub counter_of : Decoded → ℕ
-counter_of Malformed = 135
-counter_of (Well f) = counter f.kind f.a.mode f.b.mode f.c.mode
+abbrev pub counter_of : Option Form → ℕ
+counter_of None = 135
+counter_of (Some f) = counter f.kind f.a.mode f.b.mode f.c.mode
 
 -- an execution row's form is that of the instruction at its pc
 unfoldable pub counter_at : Given → Tables → ℕ → ℕ

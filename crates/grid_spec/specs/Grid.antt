@@ -1,10 +1,8 @@
 -- Document 02, M-100: a grid of 135 counters, and what a table does to it: the answer, and the grid beside it.
--- Declared in src/: Answer (answer).
 use Rattle.std.specs.Prelude.{ℕ, ◌+◌, ◌-◌, ◌^◌, cond, List, [], ◌∷◌, leb, get_or, replicate}
 use Rattle.word.specs.Bytes.{concatenated}
 use Rattle.answer.specs.Verdicts.{accepted}
-use Rattle.answer.specs.declared.Answer.{Answer}
-use Rattle.answer.specs.declared.Answer.TheVariants.{Accepted, Grid}
+use Rattle.answer.specs.Answers.{Answer, Accepted, Grid}
 use Rattle.rules.specs.Given.{Given, Tables}
 use Rattle.rules.specs.Sizes.{Parts, given_of, tables_of}
 use Rattle.judge_spec.specs.Judged.{judge_of}

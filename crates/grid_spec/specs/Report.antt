@@ -1,10 +1,8 @@
 -- Document 02, M-100: a printed report, one LF-ended line for each nonzero counter, as `add.cell.imm.fp=12`.
--- Declared in src/: Answer (answer).
 use Rattle.std.specs.Prelude.{ℕ, ◌/◌, ◌%◌, cond, List, [], ◌∷◌, ◌++◌, eqb, ltb, length, get_or, drop}
 use Rattle.word.specs.Bytes.{concatenated}
 use Rattle.lines.specs.Line.{line, decimal}
-use Rattle.answer.specs.declared.Answer.{Answer}
-use Rattle.answer.specs.declared.Answer.TheVariants.{Accepted, Size}
+use Rattle.answer.specs.Answers.{Answer, Accepted, Size}
 
 -- add, mul, deref, jump and ext (ASCII)
 abbrev pub kind_text : ℕ → List ℕ

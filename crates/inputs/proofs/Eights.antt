@@ -40,11 +40,18 @@ module _ (passes : ℕ → Bool) where
           go true h = first.0 (each a (b ∷ []) t).0 j low (ltb-true j e h)
           go false h = then.0 (each a (b ∷ []) t).1 j (omega (arith, ltb-false j e h)) high
 
+  pub nothing : (i : ℕ) → Tells true i i
+  nothing i = ((λ _ j low high. absurd (omega arith)), λ _. refl)
+
+  -- two tests that tell of the same numbers are the same
+  pub same_tells : (a b : Bool) (i e : ℕ) → Tells a i e → Tells b i e → a ≡ b
+  same_tells a b i e first then = same_truth a b (λ t. then.1 (first.0 t)) (λ t. first.1 (then.0 t))
+
   -- one number, and one more
   one : (i e : ℕ) → e ≡ i + 1 → Tells (passes i) i e
   one i e last = ((λ t j low high. let same : i ≡ j = omega arith in rw same at t), λ all. all i (omega arith) (omega arith))
 
-  one_more : (a : Bool) (i e f : ℕ) → i ≤ e → f ≡ e + 1 → Tells a i e → Tells (a && passes e) i f
+  pub one_more : (a : Bool) (i e f : ℕ) → i ≤ e → f ≡ e + 1 → Tells a i e → Tells (a && passes e) i f
   one_more a i e f low last tells = joined a (passes e) i e e f low (omega arith) (omega arith) tells (one e f last)
 
   -- a test of all of them is that none fails

@@ -8,8 +8,7 @@ use Prim.Native.Nat.{ℕ, ◌/◌, ◌%◌, ◌^◌}
 use native.Mathlib.Omega.{arith}
 use lib.Dec.{eqb, leb}
 use Rattle.word.proofs.Tests.{each}
-use Rattle.answer.specs.declared.Answer.TheVariants.{Size}
-use Rattle.answer.specs.declared.Answer.{Answer}
+use Rattle.answer.specs.Answers.{Size, Answer}
 use Rattle.rules.specs.Sizes.{program_fits, memory_fits, exec_fits, ext_fits}
 use Rattle.inputs.specs.Parts.{Fitting}
 use Rattle.judge_spec.proofs.Cases.{from_true}

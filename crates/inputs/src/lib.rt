@@ -11,6 +11,7 @@ pub use walk::{eight_words, first_word, first_word_unless, program_walk};
 
 // What one walk over the program tells: the first malformed instruction, and whether there is none and all words are
 // below p.
+// stays: `at` is `first_malformed` (judge_spec/specs/Judged.antt), by which INSTRUCTION's place is told
 #[derive(Drop)]
 pub struct Walked {
     pub at: usize,
@@ -18,11 +19,9 @@ pub struct Walked {
 }
 
 // The number of a test that fails, and else what comes after it.
+// stays: rules are told by number, 0 where all hold, as `failing` (judge_spec/specs/First.antt) has them
 pub fn first_of(number: u32, holds: bool, rest: u32) -> u32
     ensures { result ≡ cond holds rest number }
 {
-    if holds {
-        return rest;
-    }
-    number
+    if holds { rest } else { number }
 }

@@ -10,12 +10,10 @@ pub fn is_power(n: usize, low: u32, high: u32) -> bool
     requires { (0 < low) × (high < 64) }
     ensures { result ≡ is_power n low high }
 {
-    let mut k = high;
-    while low <= k {
+    for k in low..high + 1 {
         if n == 1usize << k {
             return true;
         }
-        k = k - 1;
     }
     false
 }
@@ -43,6 +41,7 @@ pub fn memory_fits(bytes: usize) -> bool
 }
 
 // The lowest part of bad length, 0 where all four fit.
+// stays: the promise is the equation with `bad_part` (specs/Parts.antt), the number that SIZE tells
 pub fn bad_part(program: usize, memory: usize, exec: usize, ext: usize) -> u32
     ensures { result ≡ bad_part program memory exec ext }
 {

@@ -22,14 +22,11 @@ pub fn eight_words(s: &[u8], k: usize) -> bool
     requires { 4 * k + 32 ≤ length s.now }
     ensures { result ≡ eight_words s.now k }
 {
-    is_word(s, k)
-        & is_word(s, k + 1)
-        & is_word(s, k + 2)
-        & is_word(s, k + 3)
-        & is_word(s, k + 4)
-        & is_word(s, k + 5)
-        & is_word(s, k + 6)
-        & is_word(s, k + 7)
+    let mut all = true;
+    for j in k..k + 8 {
+        all &= is_word(s, j);
+    }
+    all
 }
 
 // The first eight of which not all are words, or fewer than eight at the end: the search goes on from there.
@@ -38,29 +35,27 @@ fn first_eight(bytes: &[u8]) -> usize
         × (first_word bytes.now ≡ first (is_word bytes.now) result (length bytes.now / 4 - result)) }
 {
     let n = bytes.len() / 4;
-    let mut i = 0;
-    while i + 8 <= n {
-        if !eight_words(bytes, i) {
-            return i;
+    for k in 0..n / 8 {
+        if !eight_words(bytes, 8 * k) {
+            return 8 * k;
         }
-        i += 8;
     }
-    i
+    n / 8 * 8
 }
 
 // The first word at or above p; their number where there is none.
+// stays: the promise is the equation with `first_word` (judge_spec/specs/Judged.antt), by which WORD's place is told
 pub fn first_word(bytes: &[u8]) -> usize
     ensures { result ≡ first_word bytes.now }
 {
     let n = bytes.len() / 4;
-    let mut i = first_eight(bytes);
-    while i < n {
+    let start = first_eight(bytes);
+    for i in start..n {
         if !is_word(bytes, i) {
             return i;
         }
-        i += 1;
     }
-    i
+    n
 }
 
 // The same, where a walk before may have seen that there is none.
@@ -90,16 +85,14 @@ pub fn program_walk(program: &[u8]) -> Walked
 {
     let n = program.len() / 48;
     let mut words = true;
-    let mut i = 0;
-    while i < n {
+    for i in 0..n {
         if !well_formed(instruction_inside(program, 48 * i)) {
             return Walked {
                 at: i,
                 words: false,
             };
         }
-        words = words & twelve_words(program, i);
-        i += 1;
+        words &= twelve_words(program, i);
     }
-    Walked { at: i, words }
+    Walked { at: n, words }
 }

@@ -3,7 +3,7 @@
 use mathlib.Core.Path.{◌≡◌, sym, ◌∙◌}
 use Rattle.rules.specs.Given.{Given, Tables}
 use Rattle.rules.specs.Bus.{Tuple}
-use Rattle.answer.specs.declared.Answer.TheVariants.{Accepted, Bus}
+use Rattle.answer.specs.Answers.{Accepted, Bus}
 use Rattle.judge_spec.specs.Judged.{pull_balanced, bus}
 use Rattle.judge_spec.specs.Refusal.{Equal}
 use Rattle.judge_spec.proofs.Stages.{stage}

@@ -24,6 +24,8 @@ use Rattle.judge_spec.proofs.FirstLaws.{first_past}
 use Rattle.judge_spec.proofs.RuleLaws.{failing_holds, ext_numbered}
 use Rattle.inputs.specs.Words.{WellFormed}
 use Rattle.bus_tuples.specs.Ready.{Listed, Flagged}
+use Rattle.std.proofs.Common.{Option, None}
+use Rattle.judge_walks.specs.declared.Failing.{Failing}
 use Rattle.judge_walks.specs.Walks.{Tested}
 use Rattle.judge_walks.proofs.Rows.{none_fails, pc_inside}
 
@@ -31,11 +33,11 @@ pub all_words : (bytes : List ℕ) (m : ℕ) → m ≡ first_word bytes → leng
 all_words bytes m e past k h = ltb-true (word_of bytes k) p (first_past (is_word bytes) (length bytes / 4) (rw e at past) k h)
 
 -- pc is in the program, and its instructions are well-formed
-pub rows_listed : (program memory exec : List ℕ) {at rule : ℕ} {words : Bool}
-    → Tested (exec_failing (given program memory) (tables exec [])) (length exec / 32) exec at rule words
-    → length exec / 32 ≤ at → WellFormed program → Listed program exec
-rows_listed program memory exec tested past well =
-    record { formed = well; inside = λ r h. pc_inside program memory _ _ _ (none_fails tested past r h) }
+pub rows_listed : (program memory exec : List ℕ) {words : Bool}
+    → Tested (exec_failing (given program memory) (tables exec [])) (length exec / 32) exec None words
+    → WellFormed program → Listed program exec
+rows_listed program memory exec tested well =
+    record { formed = well; inside = λ r h. pc_inside program memory _ _ _ (none_fails tested r h) }
 
 -- a flag that its rule holds to 0 or 1
 bit : (x : ℕ) → IsWord x → T (zero? (x *ₚ (1 -ₚ x))) → x ≤ 1
@@ -47,10 +49,10 @@ bit x w holds =
 row_word : (ext : List ℕ) → Words ext → (k j at : ℕ) → k < length ext / 120 → j < 30 → 4 * (30 * k + j) ≡ at → IsWord (word_at ext at)
 row_word ext words k j at h inside e = subst (λ n. IsWord (word_at ext n)) e (words (30 * k + j) (omega arith))
 
-module _ (memory ext : List ℕ) {at rule : ℕ} {words : Bool}
-    (tested : Tested (ext_failing (given [] memory) (tables [] ext)) (length ext / 120) ext at rule words) (past : length ext / 120 ≤ at) where
+module _ (memory ext : List ℕ) {words : Bool}
+    (tested : Tested (ext_failing (given [] memory) (tables [] ext)) (length ext / 120) ext None words) where
   ext_holds : (r : ℕ) → r < length ext / 120 → All (ext_rules_at (given [] memory) (tables [] ext) r)
-  ext_holds r h = failing_holds (ext_rules_at (given [] memory) (tables [] ext) r) (ext_numbered (given [] memory) _ _) (none_fails tested past r h)
+  ext_holds r h = failing_holds (ext_rules_at (given [] memory) (tables [] ext) r) (ext_numbered (given [] memory) _ _) (none_fails tested r h)
 
   -- rules 2 to 5
   pub rows_flagged : Words ext → Flagged ext
@@ -65,8 +67,8 @@ module _ (memory ext : List ℕ) {at rule : ℕ} {words : Bool}
       }
 
 -- the extension rules look at the memory alone
-pub any_program : (program memory exec ext : List ℕ) {at rule : ℕ} {words : Bool}
-    → Tested (ext_failing (given [] memory) (tables [] ext)) (length ext / 120) ext at rule words
-    → Tested (ext_failing (given program memory) (tables exec ext)) (length ext / 120) ext at rule words
+pub any_program : (program memory exec ext : List ℕ) {found : Option Failing} {words : Bool}
+    → Tested (ext_failing (given [] memory) (tables [] ext)) (length ext / 120) ext found words
+    → Tested (ext_failing (given program memory) (tables exec ext)) (length ext / 120) ext found words
 unfolding ext_rules
 any_program program memory exec ext tested = tested

@@ -1,7 +1,6 @@
 -- Inner: the judge's answer from a stage on, over bytes: 5 to 7, 3 to 7, 2 to 7.
--- Declared in src/: Answer (answer).
 use Rattle.std.specs.Prelude.{List, ℕ}
-use Rattle.answer.specs.declared.Answer.{Answer}
+use Rattle.answer.specs.Answers.{Answer}
 use Rattle.rules.specs.Sizes.{given, tables}
 use Rattle.judge_spec.specs.Judged.{words, instructions, starts_at, execution, extension, bus}
 

@@ -19,10 +19,10 @@ pub(crate) fn bus_answer(program: &[u8], exec: &[u8], ext: &[u8], pulled: usize)
     ensures { result ≡ bus (given program.now []) (tables exec.now ext.now) }
 {
     if next_pull(ext, pulled) == ext.len() / 120 {
-        return Answer::Accepted;
+        return Ok(());
     }
     if !pairs_up(program, exec, ext) {
         return count_bus(program, exec, ext);
     }
-    Answer::Accepted
+    Ok(())
 }

@@ -8,9 +8,10 @@ ghost use Rattle.std.specs.Prelude.{◌≡◌, ◌++◌, ◌<◌, ◌^◌, lengt
 ghost use Rattle.judge_spec.specs.Judged.{judge_of};
 ghost use Rattle.judge_lookups.specs.Memory.{SeamBetween};
 
-use answer::Answer;
+use answer::{Answer, Refusal};
 use inputs::bad_part;
-use stage::words_answer;
+use judge_lookups::Memory;
+use stage::Parts;
 
 // The judge of a memory in one buffer: the first of two is empty.
 pub fn judge(program: &[u8], memory: &[u8], pc: u64, fp: u64, exec: &[u8], ext: &[u8]) -> Answer
@@ -26,7 +27,8 @@ pub fn judge(program: &[u8], memory: &[u8], pc: u64, fp: u64, exec: &[u8], ext: 
     judge_two(program, &memory[..0], memory, pc, fp, exec, ext)
 }
 
-// The judge of a memory that two buffers hold, one behind the other. SIZE comes first; what is left is words_answer's.
+// The judge of a memory that two buffers hold, one behind the other. SIZE comes first; what is left is
+// `Parts::words_answer`'s.
 pub fn judge_two<'a>(
     program: &[u8],
     public: &'a [u8],
@@ -54,7 +56,15 @@ pub fn judge_two<'a>(
         ext.len(),
     );
     if part != 0 {
-        return Answer::Size { part, place: 0 };
+        return Err(Refusal::Size { part, place: 0 });
     }
-    words_answer(program, public, rest, pc, fp, exec, ext)
+    let parts = Parts {
+        program,
+        memory: Memory { public, rest },
+        pc,
+        fp,
+        exec,
+        ext,
+    };
+    parts.words_answer()
 }

@@ -2,7 +2,7 @@
 -- Assumes nothing.
 use borrow.Author.Tests.{eqb-true}
 use mathlib.Core.Path.{◌≡◌, refl, sym, ◌∙◌}
-use mathlib.Core.Bool.{Bool, true, false, ◌&&◌, ◌||◌, true≢false}
+use mathlib.Core.Bool.{true, ◌&&◌, ◌||◌}
 use mathlib.Core.List.{List, [], ◌∷◌}
 use Prim.Native.Nat.{ℕ, ◌+◌, ◌<◌}
 use native.Mathlib.Omega.{arith}
@@ -18,16 +18,6 @@ use Rattle.judge_exec.specs.Parts.{lookups_then, addressed, addresses_then, oper
 use Rattle.bus_tuples.proofs.SelectedLaws.{looked_up, immediate, framed}
 use Rattle.bus_tuples.specs.Selected.{selected_of}
 use Rattle.judge_lookups.proofs.Quick.{pass, shut_rule, same_rule, same_test}
-
--- what is no word shows nothing
-pub no_word : {A : Type 0} → 4294967295 < p → A
-no_word w = absurd (omega (arith, w))
-
-pub none_of_three : (t u v : Bool) → (t || u || v) ≡ false → (t ≡ false) × (u ≡ false) × (v ≡ false)
-none_of_three false false false e = (refl, refl, refl)
-none_of_three true u v e = absurd (true≢false e)
-none_of_three false true v e = absurd (true≢false e)
-none_of_three false false true e = absurd (true≢false e)
 
 -- one flag of two is 1, so no cell is read
 no_cell : (flag fpFlag : ℕ) → flag + fpFlag ≡ 1 → 1 -ₚ flag -ₚ fpFlag ≡ 0

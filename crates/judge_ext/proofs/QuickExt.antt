@@ -1,18 +1,19 @@
 -- The groups of an extension row's rules, by the comparisons that show them.
 -- Assumes nothing.
-use borrow.Author.Tests.{eqb-true, leb-true, ltb-true}
-use mathlib.Core.Path.{◌≡◌, refl, sym, ◌∙◌, ap}
+use borrow.Author.Tests.{leb-true, ltb-true}
+use mathlib.Core.Path.{◌≡◌, refl, sym, subst, ◌∙◌}
 use mathlib.Core.Bool.{Bool, true, ◌&&◌, cond}
 use mathlib.Core.List.{List, [], ◌∷◌, ◌++◌}
 use Prim.Native.Nat.{ℕ, zero, suc, ◌%◌, ◌<◌}
 use native.Mathlib.Omega.{arith}
 use lib.Dec.{eqb, leb, ltb}
 use lib.ListN.{length}
+use Rattle.std.specs.List.{list_all}
 use Rattle.word.specs.Word.{p, ◌+ₚ◌, ◌-ₚ◌, ◌*ₚ◌}
 use Rattle.word.specs.Element.{◌⟨◌⟩, element, ◌+ₑ◌, ◌-ₑ◌, ◌·ₑ◌}
 use Rattle.word.proofs.Lists.{◌∷≡◌}
 use Rattle.word.proofs.WordLaws.{difference_self}
-use Rattle.word.proofs.ElementLaws.{scale_zero}
+use Rattle.word.proofs.ElementLaws.{scale_zero, its_words}
 use Rattle.word.proofs.Tests.{each}
 use Rattle.rows.specs.declared.Ext.{Ext}
 use Rattle.rules.specs.Given.{zero?, zero_element?}
@@ -20,10 +21,6 @@ use Rattle.rules.specs.Extension.{selected, comp_tail}
 use Rattle.judge_ext.specs.ExtParts.{ext_lookups_then, bits_then, operates_then, accumulates_then, sames_then, steps_then}
 use Rattle.judge_lookups.specs.Memory.{cell_is, held_are}
 use Rattle.judge_lookups.proofs.Quick.{pass, shut_rule, same_rule, same_test, held_cells}
-
--- a rule asked before the rules after it
-pub asks : (n : ℕ) {held is : Bool} {left after f : ℕ} → f ≡ cond held left n → held ≡ is → left ≡ after → f ≡ cond is after n
-asks n {held} {is} {left} {after} e h r = e ∙ ap (λ b. cond b left n) h ∙ ap (λ z. cond is z n) r
 
 pub bit_rule : (x : ℕ) → leb x 1 ≡ true → zero? (x *ₚ (1 -ₚ x)) ≡ true
 unfolding ◌-ₚ◌ ◌*ₚ◌
@@ -116,52 +113,22 @@ pub no_operation : (x y : Ext) (v tail : List ℕ) (after : ℕ) → x.add ≡ 0
 no_operation x y v tail after a m q = simp (a, m, q, scale_zero)
 
 -- equal elements
-pub same_elements : (flag : ℕ) (a b : List ℕ)
-    → (eqb (a ⟨ 0 ⟩) (b ⟨ 0 ⟩) && eqb (a ⟨ 1 ⟩) (b ⟨ 1 ⟩) && eqb (a ⟨ 2 ⟩) (b ⟨ 2 ⟩) && eqb (a ⟨ 3 ⟩) (b ⟨ 3 ⟩) && eqb (a ⟨ 4 ⟩) (b ⟨ 4 ⟩)) ≡ true
-    → true ≡ zero_element? (flag ·ₑ (a -ₑ b))
+pub same_elements : (flag : ℕ) (a b : List ℕ) → a ≡ b → zero_element? (flag ·ₑ (a -ₑ b)) ≡ true
 unfolding ◌-ₑ◌ ◌·ₑ◌
 same_elements flag a b e =
-    let t =
-    each (eqb (a ⟨ 0 ⟩) (b ⟨ 0 ⟩))
-    (eqb (a ⟨ 1 ⟩) (b ⟨ 1 ⟩) ∷ eqb (a ⟨ 2 ⟩) (b ⟨ 2 ⟩) ∷ eqb (a ⟨ 3 ⟩) (b ⟨ 3 ⟩) ∷ eqb (a ⟨ 4 ⟩) (b ⟨ 4 ⟩) ∷ [])
-    e in
     rw (
-      same_test flag (a ⟨ 0 ⟩) (b ⟨ 0 ⟩) t.0,
-      same_test flag (a ⟨ 1 ⟩) (b ⟨ 1 ⟩) t.1.0,
-      same_test flag (a ⟨ 2 ⟩) (b ⟨ 2 ⟩) t.1.1.0,
-      same_test flag (a ⟨ 3 ⟩) (b ⟨ 3 ⟩) t.1.1.1.0,
-      same_test flag (a ⟨ 4 ⟩) (b ⟨ 4 ⟩) t.1.1.1.1,
+      e,
+      same_rule flag (b ⟨ 0 ⟩) (b ⟨ 0 ⟩) refl,
+      same_rule flag (b ⟨ 1 ⟩) (b ⟨ 1 ⟩) refl,
+      same_rule flag (b ⟨ 2 ⟩) (b ⟨ 2 ⟩) refl,
+      same_rule flag (b ⟨ 3 ⟩) (b ⟨ 3 ⟩) refl,
+      same_rule flag (b ⟨ 4 ⟩) (b ⟨ 4 ⟩) refl,
     )
 
 -- rules 6 to 9 on a row with no operation whose running result is its result
-pub nothing_done : (x : Ext)
-    → (eqb x.add 0
-    && eqb x.mul 0
-    && eqb x.peq 0
-    && eqb (x.comp ⟨ 0 ⟩) (x.res ⟨ 0 ⟩)
-    && eqb (x.comp ⟨ 1 ⟩) (x.res ⟨ 1 ⟩)
-    && eqb (x.comp ⟨ 2 ⟩) (x.res ⟨ 2 ⟩)
-    && eqb (x.comp ⟨ 3 ⟩) (x.res ⟨ 3 ⟩)
-    && eqb (x.comp ⟨ 4 ⟩) (x.res ⟨ 4 ⟩))
-    ≡ true
+pub nothing_done : (x : Ext) → x.add ≡ 0 → x.mul ≡ 0 → x.peq ≡ 0 → x.comp ≡ x.res
     → (y : Ext) (v tail : List ℕ) (after : ℕ) → accumulates_then x y v tail after ≡ after
-nothing_done x e y v tail after =
-    let a = x.comp in
-    let b = x.res in
-    let t =
-    each (eqb x.add 0)
-    (eqb x.mul 0
-    ∷ eqb x.peq 0
-    ∷ eqb (a ⟨ 0 ⟩) (b ⟨ 0 ⟩)
-    ∷ eqb (a ⟨ 1 ⟩) (b ⟨ 1 ⟩)
-    ∷ eqb (a ⟨ 2 ⟩) (b ⟨ 2 ⟩)
-    ∷ eqb (a ⟨ 3 ⟩) (b ⟨ 3 ⟩)
-    ∷ eqb (a ⟨ 4 ⟩) (b ⟨ 4 ⟩)
-    ∷ [])
-    e in
-    let five = t.1.1.1 in
-    sym (no_operation x y v tail _ (eqb-true _ _ t.0) (eqb-true _ _ t.1.0) (eqb-true _ _ t.1.1.0))
-    ∙ pass 9 (sym (same_elements x.start a b (rw (five.0, five.1.0, five.1.1.0, five.1.1.1.0, five.1.1.1.1)))) refl
+nothing_done x a m q e y v tail after = sym (no_operation x y v tail _ a m q) ∙ pass 9 (same_elements x.start x.comp x.res e) refl
 
 -- an element's rule, coordinate by coordinate
 pub each_gated : (flag : ℕ) (a b : List ℕ) {h0 h1 h2 h3 h4 : Bool}
@@ -187,34 +154,47 @@ whole : (a : ℕ) → a < p → a ≡ (1 -ₚ 0) *ₚ a
 unfolding ◌-ₚ◌ ◌*ₚ◌
 whole a h = omega arith
 
-pub own_tail : (y : Ext) → y.start ≡ 0
-    → (ltb (y.comp ⟨ 0 ⟩) p && ltb (y.comp ⟨ 1 ⟩) p && ltb (y.comp ⟨ 2 ⟩) p && ltb (y.comp ⟨ 3 ⟩) p && ltb (y.comp ⟨ 4 ⟩) p) ≡ true
-    → y.comp ⟨ 0 ⟩ ∷ y.comp ⟨ 1 ⟩ ∷ y.comp ⟨ 2 ⟩ ∷ y.comp ⟨ 3 ⟩ ∷ y.comp ⟨ 4 ⟩ ∷ [] ≡ comp_tail y
+-- five words that a test of each tells to be below p
+both : {b c : Bool} → (b && c) ≡ true → (b ≡ true) × (c ≡ true)
+both {b} {c} e = each b (c ∷ []) e
+
+words_below : (a : List ℕ) → length a ≡ 5 → list_all (λ word. ltb word p) a ≡ true
+    → (a ⟨ 0 ⟩ < p) × (a ⟨ 1 ⟩ < p) × (a ⟨ 2 ⟩ < p) × (a ⟨ 3 ⟩ < p) × (a ⟨ 4 ⟩ < p)
+words_below a h e =
+    let f : ℕ → Bool = λ word. ltb word p in
+    let t0 = both {b = f (a ⟨ 0 ⟩)} (subst (λ (s : List ℕ). list_all f s ≡ true) (its_words a h) e) in
+    let t1 = both {b = f (a ⟨ 1 ⟩)} t0.1 in
+    let t2 = both {b = f (a ⟨ 2 ⟩)} t1.1 in
+    let t3 = both {b = f (a ⟨ 3 ⟩)} t2.1 in
+    let t4 = both {b = f (a ⟨ 4 ⟩)} t3.1 in
+    (ltb-true _ _ t0.0, ltb-true _ _ t1.0, ltb-true _ _ t2.0, ltb-true _ _ t3.0, ltb-true _ _ t4.0)
+
+pub own_tail : (y : Ext) → y.start ≡ 0 → length y.comp ≡ 5 → list_all (λ word. ltb word p) y.comp ≡ true → y.comp ≡ comp_tail y
 unfolding ◌·ₑ◌
-own_tail y z e =
+own_tail y z h e =
     let a = y.comp in
-    let t = each (ltb (a ⟨ 0 ⟩) p) (ltb (a ⟨ 1 ⟩) p ∷ ltb (a ⟨ 2 ⟩) p ∷ ltb (a ⟨ 3 ⟩) p ∷ ltb (a ⟨ 4 ⟩) p ∷ []) e in
-    rw z
-    (whole (a ⟨ 0 ⟩) (ltb-true (a ⟨ 0 ⟩) p t.0)
-    ∷≡ whole (a ⟨ 1 ⟩) (ltb-true (a ⟨ 1 ⟩) p t.1.0)
-    ∷≡ whole (a ⟨ 2 ⟩) (ltb-true (a ⟨ 2 ⟩) p t.1.1.0)
-    ∷≡ whole (a ⟨ 3 ⟩) (ltb-true (a ⟨ 3 ⟩) p t.1.1.1.0)
-    ∷≡ whole (a ⟨ 4 ⟩) (ltb-true (a ⟨ 4 ⟩) p t.1.1.1.1)
+    let t = words_below a h e in
+    its_words a h
+    ∙ rw z
+    (whole (a ⟨ 0 ⟩) t.0
+    ∷≡ whole (a ⟨ 1 ⟩) t.1
+    ∷≡ whole (a ⟨ 2 ⟩) t.2
+    ∷≡ whole (a ⟨ 3 ⟩) t.3
+    ∷≡ whole (a ⟨ 4 ⟩) t.4
     ∷≡ refl)
 
-pub own_words : (x : Ext) → x.be ≡ 0
-    → (ltb (x.vA ⟨ 0 ⟩) p && ltb (x.vA ⟨ 1 ⟩) p && ltb (x.vA ⟨ 2 ⟩) p && ltb (x.vA ⟨ 3 ⟩) p && ltb (x.vA ⟨ 4 ⟩) p) ≡ true
-    → x.vA ⟨ 0 ⟩ ∷ x.vA ⟨ 1 ⟩ ∷ x.vA ⟨ 2 ⟩ ∷ x.vA ⟨ 3 ⟩ ∷ x.vA ⟨ 4 ⟩ ∷ [] ≡ selected x
+pub own_words : (x : Ext) → x.be ≡ 0 → length x.vA ≡ 5 → list_all (λ word. ltb word p) x.vA ≡ true → x.vA ≡ selected x
 unfolding ◌+ₑ◌ ◌·ₑ◌
-own_words x z e =
+own_words x z h e =
     let a = x.vA in
-    let t = each (ltb (a ⟨ 0 ⟩) p) (ltb (a ⟨ 1 ⟩) p ∷ ltb (a ⟨ 2 ⟩) p ∷ ltb (a ⟨ 3 ⟩) p ∷ ltb (a ⟨ 4 ⟩) p ∷ []) e in
-    rw z
-    (kept x.base (a ⟨ 0 ⟩) (ltb-true (a ⟨ 0 ⟩) p t.0)
-    ∷≡ kept 0 (a ⟨ 1 ⟩) (ltb-true (a ⟨ 1 ⟩) p t.1.0)
-    ∷≡ kept 0 (a ⟨ 2 ⟩) (ltb-true (a ⟨ 2 ⟩) p t.1.1.0)
-    ∷≡ kept 0 (a ⟨ 3 ⟩) (ltb-true (a ⟨ 3 ⟩) p t.1.1.1.0)
-    ∷≡ kept 0 (a ⟨ 4 ⟩) (ltb-true (a ⟨ 4 ⟩) p t.1.1.1.1)
+    let t = words_below a h e in
+    its_words a h
+    ∙ rw z
+    (kept x.base (a ⟨ 0 ⟩) t.0
+    ∷≡ kept 0 (a ⟨ 1 ⟩) t.1
+    ∷≡ kept 0 (a ⟨ 2 ⟩) t.2
+    ∷≡ kept 0 (a ⟨ 3 ⟩) t.3
+    ∷≡ kept 0 (a ⟨ 4 ⟩) t.4
     ∷≡ refl)
 
 pub base_word : (x : Ext) → x.be ≡ 1 → x.base < p → element x.base ≡ selected x

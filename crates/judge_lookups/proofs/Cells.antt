@@ -1,8 +1,8 @@
 -- A cell as a lookup gives it: a word where it is there, and else nothing.
 -- Assumes nothing.
-use borrow.Author.Tests.{ltb-true, ltb-false, lt-ltb, le-ltb, le-leb, lt-leb, not-true, not-false}
+use borrow.Author.Tests.{ltb-true, ltb-false, lt-ltb, le-ltb, le-leb, lt-leb}
 use mathlib.Core.Path.{◌≡◌, refl, sym, ap, ◌∙◌}
-use mathlib.Core.Bool.{Bool, true, false, cond, not}
+use mathlib.Core.Bool.{Bool, true, false, cond}
 use mathlib.Core.List.{List}
 use Prim.Native.Nat.{ℕ, ◌+◌, ◌/◌, ◌≤◌, ◌<◌}
 use native.Mathlib.Nat.{add-zero}
@@ -15,18 +15,17 @@ use Rattle.rows.specs.Rows.{five_words}
 use Rattle.rules.specs.declared.Found.{Found}
 use Rattle.rules.specs.Sizes.{word_of}
 use Rattle.rules.specs.Lookups.{finding, differing, found_by}
-use Rattle.judge_lookups.specs.Memory.{cell_bytes, cell_of, cell_is}
-use Rattle.judge_lookups.specs.declared.Cell.{Cell}
-use Rattle.judge_lookups.specs.declared.Cell.TheVariants.{Word, Outside}
+use Rattle.judge_lookups.specs.Memory.{cell_bytes, cell_of}
+use Rattle.std.proofs.Common.{Option, Some, None}
 use Rattle.judge_lookups.proofs.Seam.{bytes_gone, some_there, lent_there, word_lent}
 
-abbrev there : Cell → Bool
-there (Word w) = true
-there Outside = false
+abbrev there : Option ℕ → Bool
+there (Some w) = true
+there None = false
 
-abbrev held : Cell → ℕ
-held (Word w) = w
-held Outside = 0
+abbrev held : Option ℕ → ℕ
+held (Some w) = w
+held None = 0
 
 module _ (memory : List ℕ) (k : ℕ) where
   -- what the test of a cell tells
@@ -59,25 +58,18 @@ module _ (memory : List ℕ) (k : ℕ) where
   there_is : there (cell_of memory k) ≡ ltb k (length memory / 4)
   there_is = by (ltb k (length memory / 4))
     where
-      by : (b : Bool) → there (cond b (Word (word_of memory k)) Outside) ≡ b
+      by : (b : Bool) → there (cond b (Some (word_of memory k)) None) ≡ b
       by true = refl
       by false = refl
 
-  pub word_there : {w : ℕ} → Word w ≡ cell_of memory k → k < length memory / 4
+  pub word_there : {w : ℕ} → Some w ≡ cell_of memory k → k < length memory / 4
   word_there e = ltb-true k (length memory / 4) (sym there_is ∙ sym (ap there e))
 
-  pub word_held : {w : ℕ} → Word w ≡ cell_of memory k → w ≡ word_of memory k
+  pub word_held : {w : ℕ} → Some w ≡ cell_of memory k → w ≡ word_of memory k
   word_held e = rw (lt-ltb k (length memory / 4) (word_there e)) at (ap held e)
 
-  pub not_there : Outside ≡ cell_of memory k → length memory / 4 ≤ k
+  pub not_there : None ≡ cell_of memory k → length memory / 4 ≤ k
   not_there e = ltb-false k (length memory / 4) (sym there_is ∙ sym (ap there e))
-
-  -- the rule of a lookup
-  pub word_compared : (value : ℕ) {w : ℕ} → Word w ≡ cell_of memory k → eqb value w ≡ cell_is memory k value
-  word_compared value e = rw (lt-ltb k (length memory / 4) (word_there e), ← word_held e)
-
-  pub none_compared : (value : ℕ) → Outside ≡ cell_of memory k → false ≡ cell_is memory k value
-  none_compared value e = rw (le-ltb k (length memory / 4) (not_there e))
 
 -- what is found where every cell is there, and where the last is not
 module _ (memory : List ℕ) (addr : ℕ) (column : List ℕ) where

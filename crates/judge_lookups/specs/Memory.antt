@@ -1,11 +1,8 @@
 -- Inner: lookups into a memory's bytes, which two buffers may hold: the bytes of cells, what stands in one, and what
 -- `looks_up` and `looks_up_five` of `rules` come to there.
--- Declared in src/: Cell (here).
-use Rattle.std.specs.Prelude.{ℕ, ◌+◌, ◌-◌, ◌*◌, ◌/◌, ◌%◌, ◌≡◌, Bool, ◌&&◌, cond, List, [], length, take, drop, leb, ltb, eqb}
+use Rattle.std.specs.Prelude.{ℕ, ◌+◌, ◌-◌, ◌*◌, ◌/◌, ◌%◌, ◌≡◌, Bool, ◌&&◌, cond, List, [], Option, Some, None, length, take, drop, leb, ltb, eqb}
 use Rattle.word.specs.Bytes.{word_at}
 use Rattle.word.specs.Element.{◌⟨◌⟩}
-use Rattle.judge_lookups.specs.declared.Cell.{Cell}
-use Rattle.judge_lookups.specs.declared.Cell.TheVariants.{Word, Outside}
 
 -- the bytes of n cells from one on; none where they are not all there
 unfoldable pub cell_bytes : List ℕ → ℕ → ℕ → List ℕ
@@ -31,8 +28,9 @@ held_are public rest addr a =
 abbrev pub SeamBetween : List ℕ → Type 0
 SeamBetween public = length public % 4 ≡ 0
 
-abbrev pub cell_of : List ℕ → ℕ → Cell
-cell_of memory addr = cond (ltb addr (length memory / 4)) (Word (word_at memory (4 * addr))) Outside
+-- the word of a cell, where there is such a cell
+abbrev pub cell_of : List ℕ → ℕ → Option ℕ
+cell_of memory addr = cond (ltb addr (length memory / 4)) (Some (word_at memory (4 * addr))) None
 
 abbrev pub cell_is : List ℕ → ℕ → ℕ → Bool
 cell_is memory addr value = ltb addr (length memory / 4) && eqb value (word_at memory (4 * addr))

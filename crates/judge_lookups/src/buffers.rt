@@ -1,7 +1,15 @@
 // Document 02, M-109: a memory in two buffers, public words and the rest. This is the one place where the rules of a
 // row read cells. (WORD walks the whole memory before them.)
-ghost use Rattle.std.specs.Prelude.{◌≡◌, ◌++◌, ◌<◌};
+ghost use Rattle.std.specs.Prelude.{◌≡◌, ◌<◌};
 ghost use Rattle.judge_lookups.specs.Memory.{cell_bytes, held_bytes, SeamBetween};
+
+// A memory that two buffers hold, one behind the other: public words, and the rest.
+#[derive(Clone, Copy)]
+pub struct Memory<'a> {
+    pub public: &'a [u8],
+    pub rest: &'a [u8],
+    pub ghost seam_between: { SeamBetween public.now },
+}
 
 // The bytes of n cells of one buffer, from one on; an empty part where they are not all there.
 fn part_of<'a>(bytes: &'a [u8], addr: usize, n: usize) -> &'a [u8]
@@ -30,10 +38,23 @@ pub(crate) fn cells<'a>(public: &'a [u8], rest: &'a [u8], addr: usize, n: usize)
     part_of(rest, addr - seam, n)
 }
 
-// The four bytes of a cell, of whichever buffer holds it; an empty part where there is no such cell.
-pub(crate) fn cell<'a>(public: &'a [u8], rest: &'a [u8], addr: usize) -> &'a [u8]
-    requires { SeamBetween public.now }
-    ensures { result.now ≡ cell_bytes (public.now ++ rest.now) addr 1 }
-{
-    cells(public, rest, addr, 1)
+impl<'a> Memory<'a> {
+    ghost use Rattle.judge_lookups.specs.Joined.{joined};
+
+    // A memory in one buffer: nothing is public.
+    pub fn whole(memory: &'a [u8]) -> Memory<'a>
+        ensures { joined result ≡ memory.now }
+    {
+        Memory {
+            public: &memory[..0],
+            rest: memory,
+        }
+    }
+
+    // The four bytes of a cell, of whichever buffer holds it; an empty part where there is no such cell.
+    pub(crate) fn cell(self, addr: usize) -> &'a [u8]
+        ensures { result.now ≡ cell_bytes (joined self.entry) addr 1 }
+    {
+        cells(self.public, self.rest, addr, 1)
+    }
 }

@@ -1,12 +1,11 @@
 // What a lookup that fails found: document 02, M-104.
-ghost use Rattle.std.specs.Prelude.{◌≡◌, cond, [], ◌∷◌, ◌++◌, ◌/◌, ◌<◌, eqb, length};
+ghost use Rattle.std.specs.Prelude.{◌≡◌, cond, [], ◌∷◌, ◌/◌, ◌<◌, eqb, length};
 ghost use Rattle.rows.specs.Rows.{five_words};
 ghost use Rattle.rules.specs.Sizes.{word_of};
 ghost use Rattle.rules.specs.Lookups.{finding, found_by};
-ghost use Rattle.judge_lookups.specs.Memory.{SeamBetween};
+ghost use Rattle.judge_lookups.specs.Joined.{joined};
 
-use crate::Cell;
-use crate::lookup::{cell_inside, look, there};
+use crate::buffers::Memory;
 use rules::Found;
 
 // Nothing is said.
@@ -29,38 +28,37 @@ fn compared(expected: u32, found: u32, after: Found) -> Found
     Found { expected, found }
 }
 
-// The same of a cell that is there.
-fn compared_at<'a>(public: &'a [u8], rest: &'a [u8], at: usize, found: u32, after: Found) -> Found
-    requires seam_between { SeamBetween public.now }
-    requires at_in_bounds { at < length (public.now ++ rest.now) / 4 }
-    ensures { result ≡ cond (eqb found (word_of (public.now ++ rest.now) at)) after (finding (word_of (public.now ++ rest.now) at) found) }
-{
-    compared(cell_inside(public, rest, at), found, after)
-}
-
-// Of a lookup of one cell.
-pub fn found_one<'a>(public: &'a [u8], rest: &'a [u8], addr: u32, value: u32) -> Found
-    requires { SeamBetween public.now }
-    ensures { result ≡ found_by (length (public.now ++ rest.now) / 4) (word_of (public.now ++ rest.now)) addr (value ∷ []) }
-{
-    match look(public, rest, addr as usize) {
-        Cell::Word(expected) => compared(expected, value, nothing()),
-        Cell::Outside => nothing(),
+impl<'a> Memory<'a> {
+    // The same of a cell that is there.
+    fn compared_at(self, at: usize, found: u32, after: Found) -> Found
+        requires { at < length (joined self) / 4 }
+        ensures { result ≡ cond (eqb found (word_of (joined self.entry) at)) after (finding (word_of (joined self.entry) at) found) }
+    {
+        compared(self.cell_inside(at), found, after)
     }
-}
 
-// Of five cells: where the last is there all are.
-pub fn found_five<'a>(public: &'a [u8], rest: &'a [u8], addr: u32, a: [u32; 5]) -> Found
-    requires { SeamBetween public.now }
-    ensures { result ≡ found_by (length (public.now ++ rest.now) / 4) (word_of (public.now ++ rest.now)) addr (five_words a) }
-{
-    let at = addr as usize;
-    if !there(public, rest, at + 4) {
-        return nothing();
+    // Of a lookup of one cell.
+    pub fn found_one(self, addr: u32, value: u32) -> Found
+        ensures { result ≡ found_by (length (joined self.entry) / 4) (word_of (joined self.entry)) addr (value ∷ []) }
+    {
+        match self.look(addr as usize) {
+            Some(expected) => compared(expected, value, nothing()),
+            None => nothing(),
+        }
     }
-    let fifth = compared_at(public, rest, at + 4, a[4], nothing());
-    let fourth = compared_at(public, rest, at + 3, a[3], fifth);
-    let third = compared_at(public, rest, at + 2, a[2], fourth);
-    let second = compared_at(public, rest, at + 1, a[1], third);
-    compared_at(public, rest, at, a[0], second)
+
+    // Of five cells: where the last is there all are.
+    pub fn found_five(self, addr: u32, a: [u32; 5]) -> Found
+        ensures { result ≡ found_by (length (joined self.entry) / 4) (word_of (joined self.entry)) addr (five_words a) }
+    {
+        let at = addr as usize;
+        if !self.there(at + 4) {
+            return nothing();
+        }
+        let fifth = self.compared_at(at + 4, a[4], nothing());
+        let fourth = self.compared_at(at + 3, a[3], fifth);
+        let third = self.compared_at(at + 2, a[2], fourth);
+        let second = self.compared_at(at + 1, a[1], third);
+        self.compared_at(at, a[0], second)
+    }
 }

@@ -1,5 +1,5 @@
 // What the rules of both tables ask alike: a cell of the memory and what was found there, a gate times what must be 0,
-// and the row paired with one.
+// the first rule that fails, and the row paired with one.
 #![tactic(auto)]
 
 mod buffers;
@@ -9,16 +9,11 @@ mod lookup;
 ghost use Rattle.std.specs.Prelude.{◌≡◌, ◌<◌};
 ghost use Rattle.rules.specs.Given.{zero?, next};
 ghost use Rattle.word.specs.Word.{◌-ₚ◌, ◌*ₚ◌};
+ghost use Rattle.judge_lookups.specs.Numbered.{first_failing};
 
-pub use finding::{found_five, found_one, nothing};
-pub use lookup::{five_held, looks_up, looks_up_five};
-
-// What stands in a cell, or that there is no such cell.
-#[derive(Drop)]
-pub enum Cell {
-    Word(u32),
-    Outside,
-}
+pub use buffers::Memory;
+pub use finding::nothing;
+pub use lookup::five_held;
 
 // A gate times what must be 0 where it is open. Most gates are shut, and in a table that is accepted the two are equal:
 // then nothing is computed.
@@ -32,6 +27,18 @@ pub fn gated(gate: u32, x: u32, y: u32) -> bool
         return true;
     }
     word::mul(gate, word::sub(x, y)) == 0
+}
+
+// Of rules under their numbers the first that does not hold, and else what comes after them.
+pub fn first_failing(rules: &[(u32, bool)], after: u32) -> u32
+    ensures { result ≡ first_failing rules.now after }
+{
+    for (rule, holds) in rules {
+        if !*holds {
+            return *rule;
+        }
+    }
+    after
 }
 
 // The row paired with row r of n: the next one, and the last with itself.

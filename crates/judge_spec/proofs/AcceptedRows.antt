@@ -6,7 +6,7 @@ use Prim.Native.Nat.{ℕ, ◌<◌}
 use lib.Dec.{ltb→lt}
 use Rattle.word.proofs.Tests.{is_true}
 use Rattle.form.specs.Form.{well_formed}
-use Rattle.answer.specs.declared.Answer.TheVariants.{Accepted}
+use Rattle.answer.specs.Answers.{Accepted}
 use Rattle.rules.specs.Bus.{instruction_of}
 use Rattle.rules.specs.Execution.{exec_rules}
 use Rattle.rules.specs.Sizes.{Parts, given_of, tables_of}

@@ -6,8 +6,7 @@ use mathlib.Core.List.{List}
 use Prim.Native.Nat.{ℕ, ◌/◌}
 use lib.Dec.{ltb, eqb}
 use lib.ListN.{length}
-use Rattle.answer.specs.declared.Answer.{Answer}
-use Rattle.answer.specs.declared.Answer.TheVariants.{Exec, Extension}
+use Rattle.answer.specs.Answers.{Answer, Exec, Extension}
 use Rattle.rules.specs.Sizes.{Parts, program_fits, memory_fits, exec_fits, ext_fits, given_of, tables_of}
 use Rattle.judge_spec.specs.Judged.{first_word, first_malformed, first_exec, first_ext, judge_of}
 use Rattle.judge_spec.specs.Before.{judge_before, first_four}

@@ -8,7 +8,7 @@ use native.Mathlib.Omega.{arith}
 use lib.Dec.{T, ltb}
 use borrow.Author.Tests.{ltb-true, ltb-false, le-ltb, lt-ltb}
 pub use Rattle.word.proofs.Tests.{is_true, from_true, both}
-use Rattle.answer.specs.declared.Answer.{Answer}
+use Rattle.answer.specs.Answers.{Answer}
 use Rattle.judge_spec.specs.First.{first}
 use Rattle.judge_spec.proofs.Stages.{stage}
 use Rattle.judge_spec.proofs.FirstLaws.{first_fails, first_before, first_past, first_none, first_found}

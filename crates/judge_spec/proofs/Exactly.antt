@@ -2,8 +2,7 @@
 -- than its own holds.
 use mathlib.Core.Path.{◌≡◌, subst}
 use mathlib.Core.Logic.{◌↔◌}
-use Rattle.answer.specs.declared.Answer.{Answer}
-use Rattle.answer.specs.declared.Answer.TheVariants.{Accepted}
+use Rattle.answer.specs.Answers.{Answer, Accepted}
 use Rattle.answer.specs.Determined.{Determined, equation}
 use Rattle.rules.specs.Sizes.{Parts}
 use Rattle.rules.specs.Satisfies.{Satisfies}

@@ -6,7 +6,7 @@ use mathlib.Core.Logic.{inl, inr}
 use Prim.Native.Nat.{ℕ, ◌<◌}
 use native.Mathlib.Omega.{arith}
 use lib.Dec.{T}
-use Rattle.answer.specs.declared.Answer.TheVariants.{Accepted, Instruction, Bus}
+use Rattle.answer.specs.Answers.{Accepted, Instruction, Bus}
 use Rattle.rules.specs.Given.{Given, Tables}
 use Rattle.rules.specs.Lookups.{exec_lookups, ext_lookups}
 use Rattle.rules.specs.Bus.{pulled}

@@ -13,8 +13,9 @@ use Rattle.rows.specs.declared.Exec.{Exec}
 use Rattle.rows.specs.declared.Ext.{Ext}
 use Rattle.answer.specs.Verdicts.{six, numbers_of}
 use Rattle.answer.specs.declared.Numbers.{Numbers}
-use Rattle.answer.specs.declared.Answer.{Answer}
-use Rattle.answer.specs.declared.Answer.TheVariants.{Accepted, Size, Word, Instruction as Malformed, Start, Exec as ExecRefused, Extension, Bus, Label, Stuck, Room, Open, Buffer, Grid, Edition, Listing, Short, Host, ListShort}
+use Rattle.std.specs.Prelude.{Ok, Err}
+use Rattle.answer.specs.declared.Refusal.TheVariants as refusal
+use Rattle.answer.specs.Answers.{Answer, Accepted, Size, Word, Instruction as Malformed, Start, Exec as ExecRefused, Extension, Bus, Label, Stuck, Room, Open, Buffer, Grid, Edition, Listing, Short, Host, ListShort}
 use Rattle.rules.specs.Given.{Given, Rule, rule}
 use Rattle.rules.specs.Execution.{exec_rules}
 use Rattle.rules.specs.Extension.{ext_rules}
@@ -98,40 +99,40 @@ module _ (q : Parts) where
 
   says_narrow : (a : Answer) → Says q a → Narrow (numbers_of a)
   unfolding Says
-  says_narrow Accepted x = narrow_four 0 0 0 0 (omega arith) (omega arith) (omega arith) (omega arith)
-  says_narrow (Size n place) x =
+  says_narrow (Ok o) x = narrow_four 0 0 0 0 (omega arith) (omega arith) (omega arith) (omega arith)
+  says_narrow (Err (refusal.Size n place)) x =
       narrow_four 1 n place 0 (omega arith) (omega (arith, size_part n x.bad)) (omega (arith, x.unnamed)) (omega arith)
-  says_narrow (Word n k) x =
+  says_narrow (Err (refusal.Word n k)) x =
       let w = word_part x.sizes n k x.inside in
       narrow_four 2 n k 0 (omega arith) (omega arith) w.1 (omega arith)
-  says_narrow (Malformed i) x =
+  says_narrow (Err (refusal.Instruction i)) x =
       narrow_four 3 1 i 0 (omega arith) (omega arith) (omega (arith, x.inside, count x.two.sizes)) (omega arith)
-  says_narrow Start x = narrow_four 4 0 0 0 (omega arith) (omega arith) (omega arith) (omega arith)
-  says_narrow (ExecRefused r n expected found) x =
+  says_narrow (Err refusal.Start) x = narrow_four 4 0 0 0 (omega arith) (omega arith) (omega arith) (omega arith)
+  says_narrow (Err (refusal.Exec r n expected found)) x =
       let two = x.four.three.two in
       row_narrow (given_of q) (exec_lookups ((tables_of q).exec r)) (omega arith) (omega arith) (omega (arith, x.inside, height two.sizes))
       (rule_few _ n (exec_few _ _ _ _) x.bad) (two.words 2) (exec_columns q.exec (two.words 3) r x.inside) x.stood
-  says_narrow (Extension r n expected found) x =
+  says_narrow (Err (refusal.Extension r n expected found)) x =
       let two = x.five.four.three.two in
       row_narrow (given_of q) (ext_lookups ((tables_of q).ext r)) (omega arith) (omega arith) (omega (arith, x.inside, ext_height two.sizes))
       (rule_few _ n (ext_few _ _ _) x.bad) (two.words 2) (ext_columns q.ext (two.words 4) r x.inside) x.stood
-  says_narrow (Bus n r) (inl x) =
+  says_narrow (Err (refusal.Bus n r)) (inl x) =
       narrow_four 7 n r 0 (omega arith) (omega (arith, x.0))
       (omega (arith, x.1.inside, height x.1.six.five.four.three.two.sizes)) (omega arith)
-  says_narrow (Bus n r) (inr x) =
+  says_narrow (Err (refusal.Bus n r)) (inr x) =
       narrow_four 7 n r 0 (omega arith) (omega (arith, x.0))
       (omega (arith, x.1.inside, ext_height x.1.six.five.four.three.two.sizes)) (omega arith)
-  says_narrow (Label place) x = absurd x
-  says_narrow (Stuck r n) x = absurd x
-  says_narrow (Room r) x = absurd x
-  says_narrow (Open r) x = absurd x
-  says_narrow Buffer x = absurd x
-  says_narrow Grid x = absurd x
-  says_narrow (Edition place) x = absurd x
-  says_narrow (Listing place) x = absurd x
-  says_narrow (Short place) x = absurd x
-  says_narrow Host x = absurd x
-  says_narrow (ListShort place) x = absurd x
+  says_narrow (Err (refusal.Label place)) x = absurd x
+  says_narrow (Err (refusal.Stuck r n)) x = absurd x
+  says_narrow (Err (refusal.Room r)) x = absurd x
+  says_narrow (Err (refusal.Open r)) x = absurd x
+  says_narrow (Err refusal.Buffer) x = absurd x
+  says_narrow (Err refusal.Grid) x = absurd x
+  says_narrow (Err (refusal.Edition place)) x = absurd x
+  says_narrow (Err (refusal.Listing place)) x = absurd x
+  says_narrow (Err (refusal.Short place)) x = absurd x
+  says_narrow (Err refusal.Host) x = absurd x
+  says_narrow (Err (refusal.ListShort place)) x = absurd x
 
   pub answer_narrow : Narrow (numbers_of (judge_of q))
   answer_narrow = says_narrow (judge_of q) (justified q)

@@ -6,8 +6,9 @@ use mathlib.Core.List.{List}
 use Prim.Native.Nat.{ℕ, zero, suc, ◌<◌}
 use native.Mathlib.Omega.{arith}
 use lib.Dec.{T}
-use Rattle.answer.specs.declared.Answer.{Answer}
-use Rattle.answer.specs.declared.Answer.TheVariants.{Accepted, Size, Word, Instruction, Start, Exec as ExecRefused, Extension, Bus, Label, Stuck, Room, Open, Buffer, Grid, Edition, Listing, Short, Host, ListShort}
+use Rattle.std.specs.Prelude.{Ok, Err}
+use Rattle.answer.specs.declared.Refusal.TheVariants as refusal
+use Rattle.answer.specs.Answers.{Answer, Accepted, Size, Word, Instruction, Start, Exec as ExecRefused, Extension, Bus, Label, Stuck, Room, Open, Buffer, Grid, Edition, Listing, Short, Host, ListShort}
 use Rattle.rules.specs.Given.{Given, Tables, Rule}
 use Rattle.rules.specs.Lookups.{Lookup, exec_lookups, ext_lookups, found_under}
 use Rattle.rules.specs.Bus.{pulled}
@@ -126,23 +127,23 @@ module _ (q : Parts) where
 
   pub only : (a : Answer) → Says q a → judge_of q ≡ a
   unfolding Says
-  only Accepted x = accepted x
-  only (Size n place) x = badly_sized n place x ∙ ap (Size n) (sym x.unnamed)
-  only (Word n k) x = sized x.sizes ∙ word_refused n k x
-  only (Instruction i) x = read x.two ∙ refusing (instructions_read g t) g.count Instruction (judge_start q) i x.inside x.before x.bad
-  only Start x = formed x.three ∙ start_fail g t q.pc q.fp (judge_execution q) x.bad
-  only (ExecRefused r n expected found) x = exec_refused r n expected found x
-  only (Extension r n expected found) x = ext_refused r n expected found x
-  only (Bus n r) (inl x) = push_refused r x.1 ∙ ap (λ (m : ℕ). Bus m r) (sym x.0)
-  only (Bus n r) (inr x) = pull_refused r x.1 ∙ ap (λ (m : ℕ). Bus m r) (sym x.0)
-  only (Label place) x = absurd x
-  only (Stuck r n) x = absurd x
-  only (Room r) x = absurd x
-  only (Open r) x = absurd x
-  only Buffer x = absurd x
-  only Grid x = absurd x
-  only (Edition place) x = absurd x
-  only (Listing place) x = absurd x
-  only (Short place) x = absurd x
-  only Host x = absurd x
-  only (ListShort place) x = absurd x
+  only (Ok o) x = accepted x
+  only (Err (refusal.Size n place)) x = badly_sized n place x ∙ ap (Size n) (sym x.unnamed)
+  only (Err (refusal.Word n k)) x = sized x.sizes ∙ word_refused n k x
+  only (Err (refusal.Instruction i)) x = read x.two ∙ refusing (instructions_read g t) g.count Instruction (judge_start q) i x.inside x.before x.bad
+  only (Err refusal.Start) x = formed x.three ∙ start_fail g t q.pc q.fp (judge_execution q) x.bad
+  only (Err (refusal.Exec r n expected found)) x = exec_refused r n expected found x
+  only (Err (refusal.Extension r n expected found)) x = ext_refused r n expected found x
+  only (Err (refusal.Bus n r)) (inl x) = push_refused r x.1 ∙ ap (λ (m : ℕ). Bus m r) (sym x.0)
+  only (Err (refusal.Bus n r)) (inr x) = pull_refused r x.1 ∙ ap (λ (m : ℕ). Bus m r) (sym x.0)
+  only (Err (refusal.Label place)) x = absurd x
+  only (Err (refusal.Stuck r n)) x = absurd x
+  only (Err (refusal.Room r)) x = absurd x
+  only (Err (refusal.Open r)) x = absurd x
+  only (Err refusal.Buffer) x = absurd x
+  only (Err refusal.Grid) x = absurd x
+  only (Err (refusal.Edition place)) x = absurd x
+  only (Err (refusal.Listing place)) x = absurd x
+  only (Err (refusal.Short place)) x = absurd x
+  only (Err refusal.Host) x = absurd x
+  only (Err (refusal.ListShort place)) x = absurd x

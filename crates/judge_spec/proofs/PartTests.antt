@@ -7,8 +7,7 @@ use Prim.Native.Nat.{ℕ, zero, suc, ◌/◌, ◌<◌}
 use native.Mathlib.Omega.{arith}
 use lib.Dec.{T}
 use lib.ListN.{length}
-use Rattle.answer.specs.declared.Answer.{Answer}
-use Rattle.answer.specs.declared.Answer.TheVariants.{Size, Word}
+use Rattle.answer.specs.Answers.{Answer, Size, Word}
 use Rattle.rules.specs.Sizes.{Parts}
 use Rattle.rules.specs.Satisfies.{Words}
 use Rattle.judge_spec.specs.Judged.{sizes, words}

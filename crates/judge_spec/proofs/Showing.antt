@@ -8,7 +8,7 @@ use lib.ListN.{length}
 use Rattle.form.specs.declared.Instruction.{Instruction}
 use Rattle.rows.specs.declared.Exec.{Exec}
 use Rattle.rows.specs.declared.Ext.{Ext}
-use Rattle.answer.specs.declared.Answer.TheVariants.{Exec as ExecRefused, Extension}
+use Rattle.answer.specs.Answers.{Exec as ExecRefused, Extension}
 use Rattle.rules.specs.Given.{Given}
 use Rattle.rules.specs.Execution.{exec_rules}
 use Rattle.rules.specs.Extension.{ext_rules}

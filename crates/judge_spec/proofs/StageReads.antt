@@ -8,8 +8,7 @@ use lib.Dec.{T, eqb, eqb→eq}
 use borrow.Author.Tests.{ltb-true, ltb-false, lt-ltb, le-ltb, eqb-true, eqb-false, eq-eqb, ne_eqb}
 use Rattle.word.specs.Word.{p, IsWord}
 use Rattle.form.specs.Form.{well_formed}
-use Rattle.answer.specs.declared.Answer.{Answer}
-use Rattle.answer.specs.declared.Answer.TheVariants.{Start}
+use Rattle.answer.specs.Answers.{Answer, Start}
 use Rattle.rules.specs.Given.{Given, Tables, Rule, zero?}
 use Rattle.rules.specs.Bus.{Tuple, pushes, pulled, pulls, instruction_of, balanced}
 use Rattle.rules.specs.Sizes.{word_of}

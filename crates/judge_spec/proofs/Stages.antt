@@ -1,8 +1,7 @@
 -- The judge's stages as one shape, a test of numbers in order, and the judge's answer from each test on.
 use mathlib.Core.Bool.{Bool}
 use Prim.Native.Nat.{ℕ}
-use Rattle.answer.specs.declared.Answer.{Answer}
-use Rattle.answer.specs.declared.Answer.TheVariants.{Accepted, Bus}
+use Rattle.answer.specs.Answers.{Answer, Accepted, Bus}
 use Rattle.rules.specs.Given.{Given, Tables}
 use Rattle.rules.specs.Sizes.{Parts, given_of, tables_of}
 use Rattle.judge_spec.specs.First.{first}

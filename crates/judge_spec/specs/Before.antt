@@ -1,10 +1,8 @@
 -- The judge's answer as it was before document 02's M-104: 5 EXEC and 6 EXTENSION name a row and a rule, and say
 -- nothing of what stood there. Every other test is `judge_of`'s.
--- Declared in src/: Answer (answer).
 use Rattle.std.specs.Prelude.{ℕ, List, [], ◌∷◌, length}
 use Rattle.answer.specs.Verdicts.{numbers_of}
-use Rattle.answer.specs.declared.Answer.{Answer}
-use Rattle.answer.specs.declared.Answer.TheVariants.{Exec as ExecRefused, Extension}
+use Rattle.answer.specs.Answers.{Answer, Exec as ExecRefused, Extension}
 use Rattle.rules.specs.Given.{Given, Tables}
 use Rattle.rules.specs.Sizes.{Parts, given_of, tables_of}
 use Rattle.judge_spec.specs.Judged.{refused, sizes, words, instructions, starts_at, first_exec, exec_failing, first_ext, ext_failing, bus}

@@ -1,11 +1,9 @@
 -- Document 01, "Verdicts" 0 to 7: the first failure in document 01's order. Tests run in number order. Document 02,
 -- M-104: what a lookup that fails found.
--- Declared in src/: Answer (answer).
 use Rattle.std.specs.Prelude.{ℕ, ◌/◌, Bool, ◌&&◌, ◌||◌, cond, List, length, ltb, eqb}
 use Rattle.word.specs.Word.{p}
 use Rattle.form.specs.Form.{well_formed}
-use Rattle.answer.specs.declared.Answer.{Answer}
-use Rattle.answer.specs.declared.Answer.TheVariants.{Accepted, Size, Word, Instruction, Start, Exec as ExecRefused, Extension, Bus}
+use Rattle.answer.specs.Answers.{Answer, Accepted, Size, Word, Instruction, Start, Exec as ExecRefused, Extension, Bus}
 use Rattle.rules.specs.Given.{Given, Tables, Rule, next, zero?}
 use Rattle.rules.specs.Execution.{exec_rules}
 use Rattle.rules.specs.Extension.{ext_rules}

@@ -1,11 +1,12 @@
 -- Document 01, "Verdicts" 0 to 7, and document 02, M-104: what each answer of the judge says of the parts. Tests run
 -- in number order, so each says that those before it passed.
--- Declared in src/: Answer (answer).
+-- Declared in src/: Refusal (answer).
 use Rattle.std.specs.Prelude.{◌≡◌, ◌⊎◌, Bool, true, false, List, [], ◌∷◌, ◌++◌, ℕ, ◌+◌, ◌/◌, ◌≤◌, ◌<◌, length, get_or, T}
 use Rattle.word.specs.Word.{p, IsWord}
 use Rattle.form.specs.Form.{well_formed}
-use Rattle.answer.specs.declared.Answer.{Answer}
-use Rattle.answer.specs.declared.Answer.TheVariants.{Accepted, Size, Word, Instruction, Start, Exec as ExecRefused, Extension, Bus, Label, Stuck, Room, Open, Buffer, Grid, Edition, Listing, Short, Host, ListShort}
+use Rattle.std.specs.Prelude.{Ok, Err}
+use Rattle.answer.specs.declared.Refusal.TheVariants as refusal
+use Rattle.answer.specs.Answers.{Answer, Accepted, Size, Word, Instruction, Start, Exec as ExecRefused, Extension, Bus, Label, Stuck, Room, Open, Buffer, Grid, Edition, Listing, Short, Host, ListShort}
 use Rattle.rules.specs.Given.{Given, Tables, Rule, rule}
 use Rattle.rules.specs.Lookups.{Lookup, exec_lookups, ext_lookups}
 use Rattle.rules.specs.Bus.{Tuple, pushes, pulled, pulls, pushed_to, pulled_to, instruction_of}
@@ -164,22 +165,22 @@ module _ (q : Parts) where
 
   -- what an answer of the judge says; the verdicts from 8 on are not the judge's
   unfoldable pub Says : Answer → Type 0
-  Says Accepted = Satisfies q
-  Says (Size n place) = BadSize n place
-  Says (Word n k) = BadWord n k
-  Says (Instruction i) = BadInstruction i
-  Says Start = BadStart
-  Says (ExecRefused r n expected found) = BadExec r n expected found
-  Says (Extension r n expected found) = BadExtension r n expected found
-  Says (Bus n r) = ((n ≡ 3) × BadPush r) ⊎ ((n ≡ 4) × BadPull r)
-  Says (Label place) = ⊥
-  Says (Stuck r n) = ⊥
-  Says (Room r) = ⊥
-  Says (Open r) = ⊥
-  Says Buffer = ⊥
-  Says Grid = ⊥
-  Says (Edition place) = ⊥
-  Says (Listing place) = ⊥
-  Says (Short place) = ⊥
-  Says Host = ⊥
-  Says (ListShort place) = ⊥
+  Says (Ok x) = Satisfies q
+  Says (Err (refusal.Size n place)) = BadSize n place
+  Says (Err (refusal.Word n k)) = BadWord n k
+  Says (Err (refusal.Instruction i)) = BadInstruction i
+  Says (Err refusal.Start) = BadStart
+  Says (Err (refusal.Exec r n expected found)) = BadExec r n expected found
+  Says (Err (refusal.Extension r n expected found)) = BadExtension r n expected found
+  Says (Err (refusal.Bus n r)) = ((n ≡ 3) × BadPush r) ⊎ ((n ≡ 4) × BadPull r)
+  Says (Err (refusal.Label place)) = ⊥
+  Says (Err (refusal.Stuck r n)) = ⊥
+  Says (Err (refusal.Room r)) = ⊥
+  Says (Err (refusal.Open r)) = ⊥
+  Says (Err refusal.Buffer) = ⊥
+  Says (Err refusal.Grid) = ⊥
+  Says (Err (refusal.Edition place)) = ⊥
+  Says (Err (refusal.Listing place)) = ⊥
+  Says (Err (refusal.Short place)) = ⊥
+  Says (Err refusal.Host) = ⊥
+  Says (Err (refusal.ListShort place)) = ⊥

@@ -10,9 +10,8 @@ use Rattle.text_patterns.specs.Pattern.{lit, seq, left, parse}
 use Rattle.text_patterns.specs.Fields.{digits, one, number_from, number}
 use Rattle.text_fields.specs.Digit.{hex_value, decimal_value}
 use Rattle.label.specs.Label.{hex_digits, seed_text, m_text, n_text, label_of}
-use Rattle.label.specs.Reading.{Reads}
+use Rattle.label.specs.Reading.{Reading, Reads}
 use Rattle.label.specs.Reader.{from_n, from_m, from_seed, label, recipe_of, refused_at}
-use Rattle.label.specs.declared.Reading.{Reading}
 use Rattle.label.proofs.Read.{stopped_left, refuses}
 use Rattle.label.proofs.Label.{reading_determined}
 

@@ -1,12 +1,14 @@
 -- The four lines of a label: their lengths, and that they stand one behind the other.
 -- Assumes nothing.
-use Prim.Native.Nat.{ℕ, ◌+◌, ◌≤◌}
+use Prim.Native.Nat.{ℕ, ◌+◌}
 use mathlib.Core.List.{List, ◌++◌}
 use mathlib.Core.Path.{◌≡◌, ◌∙◌}
 use native.Mathlib.Omega.{arith}
-use lib.ListN.{length, drop, length-append}
+use lib.ListN.{length, length-append}
 use Rattle.lines.specs.Line.{line, line_of}
-use Rattle.lines.proofs.Placing.{Stands, stands_four, over_front}
+use Rattle.lines.specs.Putting.{Room, Put}
+use Rattle.lines.specs.declared.Out.{Out}
+use Rattle.lines.proofs.Putting.{put_next}
 use Rattle.label.specs.Label.{hex_digits, version_text, seed_text, m_text, n_text, label_of}
 use Rattle.label.specs.declared.Recipe.{Recipe}
 
@@ -29,12 +31,10 @@ module _ (r : Recipe) where
       length-append (first ++ second ++ third) fourth
       ∙ omega (arith, length-append (first ++ second) third, length-append first second)
 
-  pub four_stand : (out : List ℕ) {i j k n : ℕ} {l m o p : List ℕ} → length (label_of r) ≤ length out
-      → Stands out 0 first i l
-      → Stands l i second j m
-      → Stands m j third k o
-      → Stands o k fourth n p
-      → p ≡ label_of r ++ drop (length (label_of r)) out
+  pub four_put : {a b c d e : Out} → Room a (label_of r) → Put a first b → Put b second c → Put c third d → Put d fourth e → Put a (label_of r) e
   unfolding label_of
-  four_stand out room e f g h =
-      (stands_four out 0 first second third fourth (omega (arith, four_long)) e f g h).1 ∙ over_front out (first ++ second ++ third ++ fourth)
+  four_put room f g h i =
+      let two = length-append first second in
+      let three = length-append (first ++ second) third in
+      let four = length-append (first ++ second ++ third) fourth in
+      put_next room (put_next (omega arith) (put_next (omega arith) f g) h) i

@@ -8,18 +8,16 @@ use native.Mathlib.Omega.{arith}
 use lib.ListN.{length, take, drop}
 use lib.Seq.{take-append_seam}
 use Rattle.answer.specs.Determined.{Determined, equations}
-use Rattle.answer.specs.declared.Answer.TheVariants.{Accepted, Label}
+use Rattle.answer.specs.Answers.{Accepted, Label}
 use Rattle.text_patterns.specs.Pattern.{Parsed, got, left, parse, Spells}
 use Rattle.text_patterns.specs.Place.{Place}
 use Rattle.text_patterns.proofs.Law.{unique}
 use Rattle.text_patterns.proofs.Patterns.{spells_one}
 use Rattle.text_patterns.proofs.Parsing.{parse_owed, ParseOwed}
 use Rattle.label.specs.declared.Recipe.{Recipe}
-use Rattle.label.specs.declared.Reading.{Reading}
-use Rattle.label.specs.declared.Written.{Written}
-use Rattle.label.specs.Writing.{written, buffered}
+use Rattle.label.specs.Writing.{Written, written, buffered}
 use Rattle.label.specs.Label.{InRange, label_of}
-use Rattle.label.specs.Reading.{Valid, Reads}
+use Rattle.label.specs.Reading.{Reading, Valid, Reads}
 use Rattle.label.specs.Reader.{label, refused_at}
 use Rattle.label.proofs.Labels.{spelling_label}
 use Rattle.label.proofs.Writing.{enough}

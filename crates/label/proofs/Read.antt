@@ -7,15 +7,14 @@ use mathlib.Core.Path.{◌≡◌, refl, subst}
 use native.Mathlib.Omega.{arith}
 use lib.ListN.{length, drop, get_or, length-drop, drop_of_length-le}
 use lib.Seq.{drop-cons}
-use Rattle.answer.specs.declared.Answer.TheVariants.{Accepted}
+use Rattle.answer.specs.Answers.{Accepted}
 use Rattle.text_patterns.specs.Pattern.{Parsed, got, left, parse}
 use Rattle.text_patterns.specs.Place.{Place}
 use Rattle.text_patterns.proofs.Parsing.{ParseOwed, parse_owed}
 use Rattle.label.specs.Label.{InRange, label_of}
-use Rattle.label.specs.Reading.{Valid, Reads}
+use Rattle.label.specs.Reading.{Reading, Valid, Reads}
 use Rattle.label.specs.Reader.{label, refused_at}
 use Rattle.label.specs.declared.Recipe.{Recipe}
-use Rattle.label.specs.declared.Reading.{Reading}
 use Rattle.label.proofs.Labels.{spelling_label}
 use Rattle.label.proofs.Length.{place_most}
 

@@ -1,15 +1,14 @@
 -- Inner: the label's fields, each behind the one before it, as the reader goes. Reading.antt, the promise, knows
 -- nothing of this.
--- Declared in src/: Answer (answer); Recipe, Reading, reader (here).
-use Rattle.std.specs.Prelude.{ℕ, ◌+◌, ◌*◌, ◌≤◌, cond, List, ◌∷◌, ◌≡◌, length, drop}
-use Rattle.answer.specs.declared.Answer.TheVariants.{Label}
-use Rattle.text_patterns.specs.Pattern.{Pattern, done, lit, seq, got, left, parse}
+-- Declared in src/: Recipe (here).
+use Rattle.std.specs.Prelude.{ℕ, ◌+◌, ◌*◌, ◌∷◌}
+use Rattle.answer.specs.Answers.{Label}
+use Rattle.text_patterns.specs.Pattern.{Pattern, done, lit, seq}
 use Rattle.text_patterns.specs.Fields.{digits, one, number}
 use Rattle.text_fields.specs.Digit.{hex_value, decimal_value}
 use Rattle.label.specs.Label.{newest, no_recipe, version_text, seed_text, m_text, n_text}
 use Rattle.label.specs.declared.Recipe.{Recipe}
-use Rattle.label.specs.declared.Reading.{Reading}
-use Rattle.label.specs.declared.reader.Fields.{Fields}
+use Rattle.label.specs.Reading.{Reading}
 
 abbrev pub recipe_of : ℕ → ℕ → ℕ → ℕ → Recipe
 recipe_of version seed m n = record { version = version; seed = seed; m = m; n = n }
@@ -30,11 +29,6 @@ from_seed version = lit (10 ∷ seed_text) (seq (digits 16 hex_value 16 0) (from
 -- v= and 1 or 2; what follows may depend on it
 unfoldable pub label : Pattern Recipe
 label = lit version_text (seq (one decimal_value 1 newest) from_seed)
-
--- the pattern's own reading: a recipe and the bytes behind it; or those from which on the text is no label's
-pub record FieldsRead (text : List ℕ) (r : Fields) : Type 0 where
-  pub inside : r.at ≤ length text
-  pub read : parse label text ≡ cond r.stopped (left (drop r.at text)) (got r.recipe (drop r.at text))
 
 abbrev pub refused_at : ℕ → Reading
 refused_at place = record { answer = Label place; recipe = no_recipe }

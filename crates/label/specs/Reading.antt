@@ -1,12 +1,22 @@
 -- Document 01, "Verdicts", row LABEL, and "Draws, recipe, label": what reading a text owes, against valid labels of
 -- either version. Nothing here says how a reader goes.
--- Declared in src/: Answer (answer); Recipe, Reading (here).
-use Rattle.std.specs.Prelude.{ℕ, List, ◌⊎◌, ◌≡◌}
-use Rattle.answer.specs.declared.Answer.TheVariants.{Accepted, Label}
+-- Declared in src/: Refusal (answer); Recipe (here).
+use Rattle.std.specs.Prelude.{ℕ, Result, Ok, Err, List, ◌⊎◌, ◌≡◌}
+use Rattle.answer.specs.declared.Refusal.{Refusal}
+use Rattle.answer.specs.Answers.{Answer, Accepted, Label}
 use Rattle.text_patterns.specs.Place.{Place}
 use Rattle.label.specs.declared.Recipe.{Recipe}
-use Rattle.label.specs.declared.Reading.{Reading}
 use Rattle.label.specs.Label.{InRange, no_recipe, label_of}
+
+-- what reading a text finds: the recipe where the answer is Accepted, else all 0
+pub record Reading : Type 0 where
+  pub answer : Answer
+  pub recipe : Recipe
+
+-- of a call that gives the recipe where it is accepted
+abbrev pub reading_of : Result Recipe Refusal → Reading
+reading_of (Ok r) = record { answer = Accepted; recipe = r }
+reading_of (Err r) = record { answer = Err r; recipe = no_recipe }
 
 -- a text is valid if it is the label of a recipe
 abbrev pub Valid : List ℕ → Type 0

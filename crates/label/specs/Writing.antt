@@ -1,10 +1,19 @@
 -- Document 01, "Draws, recipe, label" and "Verdicts", row SIZE parts 0 and 5: what writing a label owes.
--- Declared in src/: Answer (answer); Recipe, Written (here).
-use Rattle.std.specs.Prelude.{ℕ, cond, List, ◌++◌, ltb, length, drop}
-use Rattle.answer.specs.declared.Answer.TheVariants.{Accepted, Size}
+-- Declared in src/: Refusal (answer); Recipe (here).
+use Rattle.std.specs.Prelude.{ℕ, Result, cond, List, ◌++◌, ltb, length, drop}
+use Rattle.answer.specs.declared.Refusal.{Refusal}
+use Rattle.answer.specs.Answers.{Answer, Accepted, Size, answer_of, number_of}
 use Rattle.label.specs.declared.Recipe.{Recipe}
-use Rattle.label.specs.declared.Written.{Written}
 use Rattle.label.specs.Label.{ranged, label_of}
+
+-- what writing a label did: the bytes written, 0 where it was refused
+pub record Written : Type 0 where
+  pub answer : Answer
+  pub length : ℕ
+
+-- of a call that gives the bytes written where it is accepted
+abbrev pub written_by : Result ℕ Refusal → Written
+written_by w = record { answer = answer_of w; length = number_of w }
 
 -- a recipe out of range is part 0; a buffer shorter than the label is part 5 with the length needed
 unfoldable pub written : Recipe → ℕ → Written

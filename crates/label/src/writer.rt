@@ -1,19 +1,21 @@
 // The label writer: range, room, then line by line.
-ghost use Rattle.std.specs.Prelude.{true, ◌++◌, ◌≡◌, ◌+◌, ◌%◌, ◌≤◌, length, drop};
-ghost use Rattle.lines.specs.Line.{line, over};
+ghost use Rattle.std.specs.Prelude.{true, ◌++◌, ◌≡◌, ◌%◌, ◌≤◌, length};
+ghost use Rattle.answer.specs.Answers.{answer_of, number_of};
+ghost use Rattle.lines.specs.Line.{line};
+ghost use Rattle.lines.specs.Putting.{Room, Put};
 ghost use Rattle.label.specs.Label.{hex_digit, hex_digits, seed_text, ranged, label_of};
 ghost use Rattle.label.specs.Writing.{written, buffered};
 
-use crate::{Recipe, Written};
-use answer::Answer;
-use lines::{put, put_line};
+use crate::Recipe;
+use answer::Refusal;
+use lines::Out;
 
 pub fn in_range(recipe: Recipe) -> bool
     ensures { result ≡ ranged recipe }
 {
-    ((1 <= recipe.version) & (recipe.version <= 2))
-        & ((10 <= recipe.m) & (recipe.m <= 29))
-        & ((1 <= recipe.n) & (recipe.n <= 124))
+    (1..=2).contains(&recipe.version)
+        && (10..=29).contains(&recipe.m)
+        && (1..=124).contains(&recipe.n)
 }
 
 // The hex digit of a number's lowest four bits.
@@ -32,10 +34,8 @@ fn hex_line(seed: u64) -> [u8; 17]
     ensures { result ≡ line (hex_digits 16 seed) }
 {
     let mut bytes = [10u8; 17];
-    let mut i: usize = 16;
     let mut rest = seed;
-    while 0 < i {
-        i -= 1;
+    for i in (0..16).rev() {
         bytes[i] = hex_digit(rest);
         rest /= 16;
     }
@@ -46,61 +46,53 @@ fn label_length(recipe: Recipe) -> u32
     requires { ranged recipe ≡ true }
     ensures { (result ≡ length (label_of recipe)) × (result ≤ 37) }
 {
-    if recipe.n < 10 {
-        return 35;
+    match recipe.n {
+        ..=9 => 35,
+        10..=99 => 36,
+        _ => 37,
     }
-    if recipe.n < 100 {
-        return 36;
-    }
-    37
 }
 
-// The seed's line from a byte of the buffer on, and where it ends.
-fn put_seed(seed: u64, at: usize, out: &mut [u8]) -> usize
-    requires { at + length (line (seed_text ++ hex_digits 16 seed)) ≤ length out.old }
-    ensures { (result ≡ at + length (line (seed_text ++ hex_digits 16 seed)))
-        × (out.new ≡ over out.old at (line (seed_text ++ hex_digits 16 seed))) }
+// The seed's line.
+fn put_seed(seed: u64, out: &mut Out)
+    requires { Room out.old (line (seed_text ++ hex_digits 16 seed)) }
+    ensures { Put out.old (line (seed_text ++ hex_digits 16 seed)) out.new }
 {
-    let digits = hex_line(seed);
-    let middle = put(b"seed=", at, out);
-    put(&digits, middle, out)
+    out.put(b"seed=");
+    out.put(&hex_line(seed));
 }
 
 // The four lines, each behind the one before it.
-fn fill(recipe: Recipe, buffer: &mut [u8])
-    requires { length (label_of recipe) ≤ length buffer.old }
-    ensures { buffer.new ≡ label_of recipe ++ drop (length (label_of recipe)) buffer.old }
+fn fill(recipe: Recipe, out: &mut Out)
+    requires { Room out.old (label_of recipe) }
+    ensures { Put out.old (label_of recipe) out.new }
 {
-    let at_seed = put_line(b"v=", recipe.version as u64, 0, buffer);
-    let at_m = put_seed(recipe.seed, at_seed, buffer);
-    let at_n = put_line(b"m=", recipe.m as u64, at_m, buffer);
-    put_line(b"n=", recipe.n as u64, at_n, buffer);
+    out.put_line(b"v=", u64::from(recipe.version));
+    put_seed(recipe.seed, out);
+    out.put_line(b"m=", u64::from(recipe.m));
+    out.put_line(b"n=", u64::from(recipe.n));
 }
 
-// The label at the start of the buffer; the bytes after it stay.
-pub fn write_label(recipe: Recipe, buffer: &mut [u8]) -> Written
-    ensures { (result ≡ written recipe (length buffer.old))
-        × (buffer.new ≡ buffered recipe buffer.old) }
+// The label at the start of the buffer, and its length; the bytes after it stay, and a refusal changes none.
+pub fn write_label(recipe: Recipe, buffer: &mut [u8]) -> Result<u32, Refusal>
+    ensures value { answer_of result ≡ (written recipe (length buffer.old)).answer }
+    ensures length_written { number_of result ≡ (written recipe (length buffer.old)).length }
+    ensures buffer_after { buffer.new ≡ buffered recipe buffer.old }
 {
-    if in_range(recipe) {
-        let size = label_length(recipe);
-        if buffer.len() < size as usize {
-            return Written {
-                answer: Answer::Size {
-                    part: 5,
-                    place: size,
-                },
-                length: 0,
-            };
-        }
-        fill(recipe, buffer);
-        return Written {
-            answer: Answer::Accepted,
-            length: size,
-        };
+    if !in_range(recipe) {
+        return Err(Refusal::Size { part: 0, place: 0 });
     }
-    Written {
-        answer: Answer::Size { part: 0, place: 0 },
-        length: 0,
+    let size = label_length(recipe);
+    if buffer.len() < size as usize {
+        return Err(Refusal::Size {
+            part: 5,
+            place: size,
+        });
     }
+    let mut out = Out {
+        bytes: buffer,
+        at: 0,
+    };
+    fill(recipe, &mut out);
+    Ok(size)
 }

@@ -1,3 +1,4 @@
 pub mod Placing
+pub mod Putting
 pub mod Numbers
 pub mod Readable

@@ -46,27 +46,3 @@ over_front out bytes = rw (zero-add (length bytes))
 -- a text stands in a buffer, and so far it goes
 abbrev pub Stands : List ℕ → ℕ → List ℕ → ℕ → List ℕ → Type 0
 Stands out at text end l = (end ≡ at + length text) × (l ≡ over out at text)
-
--- texts that are put, each where the one before it ends
-module _ (out : List ℕ) (at : ℕ) where
-  pub stands_next : (text next : List ℕ) {middle end : ℕ} {l m : List ℕ} → at + length text ≤ length out
-      → Stands out at text middle l
-      → Stands l middle next end m
-      → Stands out at (text ++ next) end m
-  stands_next text next h s n = (
-    omega (arith, n.0, s.0, length-append text next),
-    n.1 ∙ rw (s.0, s.1) (over_then out at text next h),
-  )
-
-  pub stands_four : (a b c d : List ℕ) {i j k n : ℕ} {l m o p : List ℕ} → at + length a + length b + length c ≤ length out
-      → Stands out at a i l
-      → Stands l i b j m
-      → Stands m j c k o
-      → Stands o k d n p
-      → Stands out at (a ++ b ++ c ++ d) n p
-  stands_four a b c d room e f g h =
-      let two = length-append a b in
-      let three = length-append (a ++ b) c in
-      stands_next (a ++ b ++ c) d (omega (arith, two, three))
-      (stands_next (a ++ b) c (omega (arith, two)) (stands_next a b (omega arith) e f) g)
-      h

@@ -1,22 +1,19 @@
 // A number in decimal.
-ghost use Rattle.std.specs.Prelude.{[], ◌∷◌, ◌++◌, ◌≡◌, ◌≤◌, length, drop};
+ghost use Rattle.std.specs.Prelude.{◌++◌, ◌≡◌, drop};
 ghost use Rattle.lines.specs.Line.{decimal};
 
-use crate::Digits;
-
-// The digits of a number and the byte that ends it, from the last to the first.
-pub(crate) fn ended_digits(number: u64, end: u8) -> Digits
-    ensures { (21 ≡ length result.bytes) × (result.from ≤ 21) × (drop result.from result.bytes ≡ decimal number ++ (end ∷ [])) }
+// The digits of a number, from the last to the first, in front of the last byte, and that byte.
+pub(crate) fn ended_digits<'a>(number: u64, bytes: &'a mut [u8; 21]) -> &'a [u8]
+    ensures { result.now ≡ decimal number ++ drop 20 bytes.old }
 {
-    let mut bytes = [end; 21];
-    let mut i = 20;
     let mut rest = number;
-    while 9 < rest {
-        i -= 1;
+    for i in (0..20).rev() {
         bytes[i] = 48 + (rest % 10) as u8;
         rest /= 10;
+        if rest == 0 {
+            return &bytes[i..];
+        }
     }
-    i -= 1;
-    bytes[i] = 48 + rest as u8;
-    Digits { bytes, from: i }
+    // No number has more than 20 digits, so the loop has returned.
+    &bytes[..]
 }

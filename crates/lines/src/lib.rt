@@ -4,49 +4,44 @@
 
 mod decimal;
 
-ghost use Rattle.std.specs.Prelude.{◌≡◌, ◌+◌, ◌≤◌, length};
-ghost use Rattle.lines.specs.Line.{over, numbered, line_of};
+ghost use Rattle.lines.specs.Line.{numbered, line_of};
+ghost use Rattle.lines.specs.Putting.{Room, Put};
 
 use decimal::ended_digits;
 
-// The digits of a number and the byte that ends it, the bytes of a text from a byte on.
+// A buffer, and the byte of it where the next text goes.
 #[derive(Drop)]
-pub struct Digits {
-    bytes: [u8; 21],
-    from: usize,
+pub struct Out<'a> {
+    pub bytes: &'a mut [u8],
+    pub at: usize,
 }
 
-// Bytes from a byte of the buffer on, and where they end.
-pub fn put(bytes: &[u8], at: usize, out: &mut [u8]) -> usize
-    requires { at + length bytes.now ≤ length out.old }
-    ensures { (result ≡ at + length bytes.now) × (out.new ≡ over out.old at bytes.now) }
-{
-    let mut i = 0;
-    while i < bytes.len() {
-        out[at + i] = bytes[i];
-        i += 1;
+impl Out<'_> {
+    // The text, and the place behind it.
+    pub fn put(&mut self, text: &[u8])
+        requires { Room self.old text.now }
+        ensures { Put self.old text.now self.new }
+    {
+        let end = self.at + text.len();
+        self.bytes[self.at..end].copy_from_slice(text);
+        self.at = end;
     }
-    at + bytes.len()
-}
 
-// A name, a number and the byte that ends it, from a byte of the buffer on, and where they end.
-pub fn put_number(name: &[u8], number: u64, end: u8, at: usize, out: &mut [u8]) -> usize
-    requires { at + length (numbered name.now number end) ≤ length out.old }
-    ensures { (result ≡ at + length (numbered name.now number end))
-        × (out.new ≡ over out.old at (numbered name.now number end)) }
-{
-    let digits = ended_digits(number, end);
-    let bytes = digits.bytes;
-    let from = digits.from;
-    let middle = put(name, at, out);
-    put(&bytes[from..], middle, out)
-}
+    // A name, a number and the byte that ends it.
+    pub fn put_number(&mut self, name: &[u8], number: u64, end: u8)
+        requires { Room self.old (numbered name.now number end) }
+        ensures { Put self.old (numbered name.now number end) self.new }
+    {
+        let mut bytes = [end; 21];
+        self.put(name);
+        self.put(ended_digits(number, &mut bytes));
+    }
 
-// A line from a byte of the buffer on, and where it ends.
-pub fn put_line(name: &[u8], number: u64, at: usize, out: &mut [u8]) -> usize
-    requires { at + length (line_of name.now number) ≤ length out.old }
-    ensures { (result ≡ at + length (line_of name.now number))
-        × (out.new ≡ over out.old at (line_of name.now number)) }
-{
-    put_number(name, number, 10, at, out)
+    // A line of a name and a number.
+    pub fn put_line(&mut self, name: &[u8], number: u64)
+        requires { Room self.old (line_of name.now number) }
+        ensures { Put self.old (line_of name.now number) self.new }
+    {
+        self.put_number(name, number, 10);
+    }
 }

@@ -19,7 +19,7 @@ use Rattle.form.specs.declared.Operand.{Operand}
 use Rattle.form.specs.declared.Kind.{Kind}
 use Rattle.form.specs.declared.Kind.TheVariants.{Add, Mul, Deref, Jump, Extension}
 use Rattle.form.specs.declared.Form.{Form}
-use Rattle.form.specs.declared.Decoded.TheVariants.{Well}
+use Rattle.std.specs.Prelude.{Some}
 use Rattle.form.proofs.DataLaws.{parts, written, reads}
 use Rattle.form.proofs.Forms.{Flags, Opcode, Plain, Words, Formed, formed_of, decodes as kind-decodes}
 use Rattle.listing_forms.specs.Ranges.{kind_number, mode_number, range, a_range, b_range, c_range}
@@ -126,11 +126,11 @@ module _ (f : Form) (l : Listable f) where
   b_back : operand_of (immediate_flag f.b.mode) (frame_flag f.a.mode) f.b.word ≡ f.b
   b_back = rw (← same_frame) (operand_back f.b)
 
-  pub decodes : decode_of (form_instruction f) ≡ Well f
+  pub decodes : decode_of (form_instruction f) ≡ Some f
   unfolding form_instruction
   decodes =
       kind-decodes (form_instruction f) f.kind (flags_fit_lem (form_instruction f) its_flags) its_words
-      ∙ (λ j. Well (record { kind = f.kind; a = operand_back f.a j; b = b_back j; c = operand_back f.c j }))
+      ∙ (λ j. Some (record { kind = f.kind; a = operand_back f.a j; b = b_back j; c = operand_back f.c j }))
 
   pub words_small : (k : ℕ) → get_or (instruction_words (form_instruction f)) k 0 < p
   unfolding form_instruction
@@ -205,7 +205,7 @@ module _ (i : Instruction) (f : Form) (is : Formed i f) where
       }
 
 -- an instruction of words that decodes is that of a form which a line can say
-pub decoded : (i : Instruction) (f : Form) → ((k : ℕ) → get_or (instruction_words i) k 0 < p) → decode_of i ≡ Well f → Listable f × (form_instruction f ≡ i)
+pub decoded : (i : Instruction) (f : Form) → ((k : ℕ) → get_or (instruction_words i) k 0 < p) → decode_of i ≡ Some f → Listable f × (form_instruction f ≡ i)
 decoded i f small e =
     let is = formed_of i f e in
     let ranges = modes i f is f.kind is.words in (

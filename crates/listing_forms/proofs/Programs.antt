@@ -2,7 +2,7 @@
 -- Assumes nothing.
 use mathlib.Core.Path.{◌≡◌, refl, sym, ap, ap₂, ◌∙◌}
 use mathlib.Core.List.{List, [], ◌∷◌, ◌++◌, append_assoc, append-nil}
-use Prim.Native.Nat.{ℕ, zero, suc, ◌+◌, ◌*◌, ◌/◌, ◌%◌, ◌^◌, ◌≤◌, ◌<◌}
+use Prim.Native.Nat.{ℕ, zero, suc, ◌*◌, ◌/◌, ◌%◌, ◌^◌, ◌≤◌, ◌<◌}
 use native.Mathlib.Omega.{arith}
 use lib.Dec.{eqb, leb, lit<}
 use lib.ListN.{length, get_or, length-append}
@@ -18,7 +18,7 @@ use Rattle.form.specs.declared.Mode.TheVariants.{Immediate}
 use Rattle.form.specs.declared.Operand.{Operand}
 use Rattle.form.specs.declared.Kind.TheVariants.{Add}
 use Rattle.form.specs.declared.Form.{Form}
-use Rattle.form.specs.declared.Decoded.TheVariants.{Well}
+use Rattle.std.specs.Prelude.{Some}
 use Rattle.form.proofs.Forms.{well}
 use Rattle.rows.specs.Rows.{bytes_of_words}
 use Rattle.rows.proofs.RowLaws.{Below}
@@ -89,7 +89,7 @@ module _ (fs : List Form) (each : Each Listable fs) where
   listable : (k : ℕ) → k < length fs → Listable (get_or fs k blank)
   listable = each_at blank Listable fs each
 
-  read_back : (k : ℕ) → k < length fs → decode_of (instruction_at (program_of fs) (48 * k)) ≡ Well (get_or fs k blank)
+  read_back : (k : ℕ) → k < length fs → decode_of (instruction_at (program_of fs) (48 * k)) ≡ Some (get_or fs k blank)
   read_back k h =
       ap (λ (program : List ℕ). decode_of (instruction_at program (48 * k))) (as_written fs)
       ∙ ap decode_of (instruction_read (part fs) (length fs) k h (λ j. omega (arith, words_small (get_or fs k blank) (listable k h) j)))

@@ -7,45 +7,25 @@ use form::{Form, Instruction, Kind, Mode, data_word};
 fn immediate_flag(mode: Mode) -> u32
     ensures { result ≡ immediate_flag mode }
 {
-    match mode {
-        Mode::Immediate => 1,
-        Mode::Cell => 0,
-        Mode::Frame => 0,
-    }
+    u32::from(matches!(mode, Mode::Immediate))
 }
 
 fn frame_flag(mode: Mode) -> u32
     ensures { result ≡ frame_flag mode }
 {
-    match mode {
-        Mode::Immediate => 0,
-        Mode::Cell => 0,
-        Mode::Frame => 1,
-    }
+    u32::from(matches!(mode, Mode::Frame))
 }
 
 fn mul_word(kind: Kind) -> u32
     ensures { result ≡ mul_word kind }
 {
-    match kind {
-        Kind::Mul => 1,
-        Kind::Add => 0,
-        Kind::Deref => 0,
-        Kind::Jump => 0,
-        Kind::Extension { op: _, be: _, n: _ } => 0,
-    }
+    u32::from(matches!(kind, Kind::Mul))
 }
 
 fn jump_word(kind: Kind) -> u32
     ensures { result ≡ jump_word kind }
 {
-    match kind {
-        Kind::Jump => 1,
-        Kind::Add => 0,
-        Kind::Mul => 0,
-        Kind::Deref => 0,
-        Kind::Extension { op: _, be: _, n: _ } => 0,
-    }
+    u32::from(matches!(kind, Kind::Jump))
 }
 
 fn aux_word(kind: Kind) -> u32
@@ -54,9 +34,7 @@ fn aux_word(kind: Kind) -> u32
     match kind {
         Kind::Add => 1,
         Kind::Deref => 2,
-        Kind::Mul => 0,
-        Kind::Jump => 0,
-        Kind::Extension { op: _, be: _, n: _ } => 0,
+        _ => 0,
     }
 }
 
@@ -67,10 +45,7 @@ fn call_word(kind: Kind) -> u32
 {
     match kind {
         Kind::Extension { op, be, n } => data_word(op, be, n) as u32,
-        Kind::Add => 0,
-        Kind::Mul => 0,
-        Kind::Deref => 0,
-        Kind::Jump => 0,
+        _ => 0,
     }
 }
 
@@ -79,22 +54,16 @@ pub fn form_instruction(f: Form) -> Instruction
     requires { CallFits f.kind }
     ensures { result ≡ form_instruction f }
 {
-    let kind = f.kind;
-    let a = f.a;
-    let b = f.b;
-    let c = f.c;
-    let a_mode = a.mode;
-    let b_mode = b.mode;
-    let c_mode = c.mode;
+    let Form { kind, a, b, c } = f;
     Instruction {
         a: a.word,
         b: b.word,
         c: c.word,
-        fa: immediate_flag(a_mode),
-        fb: immediate_flag(b_mode),
-        fc: immediate_flag(c_mode),
-        fpc: frame_flag(c_mode),
-        fpab: frame_flag(a_mode),
+        fa: immediate_flag(a.mode),
+        fb: immediate_flag(b.mode),
+        fc: immediate_flag(c.mode),
+        fpc: frame_flag(c.mode),
+        fpab: frame_flag(a.mode),
         mul: mul_word(kind),
         jump: jump_word(kind),
         aux: aux_word(kind),

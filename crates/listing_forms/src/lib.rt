@@ -10,6 +10,7 @@ use form::{Mode, Op};
 pub use instruction::form_instruction;
 
 // The modes that are allowed, from one number to another.
+// stays: `InRange` (specs/Forms.antt), by which a line's forms are told, reads these two numbers
 #[derive(Clone, Copy)]
 pub struct Span {
     pub low: u64,
@@ -17,29 +18,26 @@ pub struct Span {
 }
 
 // The mode of a number: 0 an immediate, 1 a cell, 2 fp-relative.
+// stays: a line's letters are read as numbers (text_fields), of which `a_range` (specs/Ranges.antt) and its laws speak
 pub fn mode_of(number: u64) -> Mode
     ensures { result ≡ mode_of number }
 {
-    if number == 0 {
-        return Mode::Immediate;
+    match number {
+        0 => Mode::Immediate,
+        1 => Mode::Cell,
+        _ => Mode::Frame,
     }
-    if number == 1 {
-        return Mode::Cell;
-    }
-    Mode::Frame
 }
 
 // The operation of a number: 0 add, 1 mul, 2 peq.
 pub fn op_of(number: u64) -> Op
     ensures { result ≡ op_of number }
 {
-    if number == 0 {
-        return Op::Add;
+    match number {
+        0 => Op::Add,
+        1 => Op::Mul,
+        _ => Op::Peq,
     }
-    if number == 1 {
-        return Op::Mul;
-    }
-    Op::Peq
 }
 
 fn range(low: u64, high: u64) -> Span
@@ -52,32 +50,25 @@ fn range(low: u64, high: u64) -> Span
 pub fn a_range(kind: u64) -> Span
     ensures { result ≡ a_range kind }
 {
-    if kind == 2 {
-        return range(1, 1);
+    match kind {
+        2 => range(1, 1),
+        4 => range(0, 2),
+        _ => range(0, 1),
     }
-    if kind == 4 {
-        return range(0, 2);
-    }
-    range(0, 1)
 }
 
 pub fn b_range(kind: u64, a: u64) -> Span
     ensures { result ≡ b_range kind a }
 {
-    if kind == 2 {
-        return range(0, 0);
+    match (kind, a) {
+        (2, _) => range(0, 0),
+        (_, 2) => range(2, 2),
+        _ => range(0, 1), // fp stands beside fp alone
     }
-    if a == 2 {
-        return range(2, 2);
-    }
-    range(0, 1) // fp stands beside fp alone
 }
 
 pub fn c_range(kind: u64) -> Span
     ensures { result ≡ c_range kind }
 {
-    if kind == 3 {
-        return range(1, 2);
-    }
-    range(0, 2)
+    if kind == 3 { range(1, 2) } else { range(0, 2) }
 }

@@ -12,15 +12,14 @@ use lib.Seq.{take_at}
 use borrow.Author.Tests.{le-leb, lt-leb, leb-true, leb-false}
 use Rattle.word.proofs.Tests.{cases}
 use Rattle.answer.specs.Verdicts.{accepted}
-use Rattle.answer.specs.declared.Answer.{Answer}
-use Rattle.answer.specs.declared.Answer.TheVariants.{Accepted, Listing, Short}
+use Rattle.answer.specs.Answers.{Answer, Accepted, Listing, Short}
 use Rattle.text_patterns.specs.Place.{Place}
 use Rattle.text_patterns.specs.Pattern.{parse}
 use Rattle.listing_spec.specs.Listing.{listing_of}
 use Rattle.listing_spec.specs.Program.{WellFormedProgram}
 use Rattle.listing_spec.specs.Writing.{within, list_answer, transcribed, transcribed_in, listed, listed_in}
 use Rattle.listing_spec.specs.Reading.{ValidListing, Sense, Lists, LeavesAt, Means, read_answer, bytes_read, assembled, assembled_in, Assembles}
-use Rattle.listing_spec.specs.declared.Transcribed.{Transcribed}
+use Rattle.listing_spec.specs.Writing.{Transcribed}
 use Rattle.listing_law.proofs.ProgramTests.{passes, passed, tests_first}
 use Rattle.listing_line.specs.Line.{listing_lines}
 use Rattle.listing_law.specs.Listings.{Listings}

@@ -8,8 +8,7 @@ use lib.Dec.{ltb}
 use lib.ListN.{length, get_or}
 use Rattle.word.proofs.Tests.{by_test}
 use Rattle.answer.specs.Verdicts.{accepted}
-use Rattle.answer.specs.declared.Answer.{Answer}
-use Rattle.answer.specs.declared.Answer.TheVariants.{Accepted, Size, Word, Instruction}
+use Rattle.answer.specs.Answers.{Answer, Accepted, Size, Word, Instruction}
 use Rattle.rules.specs.Sizes.{program_fits, given, tables}
 use Rattle.judge_spec.specs.Judged.{first_word, first_malformed, instructions}
 use Rattle.judge_spec.proofs.Cases.{tested, untouched}

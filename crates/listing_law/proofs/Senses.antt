@@ -14,7 +14,7 @@ use Rattle.text_patterns.proofs.Parsing.{ParseOwed, parse_owed}
 use Rattle.listing_spec.specs.Listing.{form_line, listing_of}
 use Rattle.listing_spec.specs.Program.{WellFormedProgram}
 use Rattle.listing_spec.specs.Reading.{ValidListing, Sense, Lists, LeavesAt, Means, assembled, assembled_in, Assembles}
-use Rattle.listing_spec.specs.declared.Transcribed.{Transcribed}
+use Rattle.listing_spec.specs.Writing.{Transcribed}
 use Rattle.listing_forms.specs.Forms.{Listable, program_of}
 use Rattle.listing_forms.proofs.Programs.{well_formed_lem, its_listing, of_forms}
 use Rattle.listing_line.specs.Line.{listing_lines}

@@ -3,16 +3,15 @@
 -- bytes needed, output unchanged. SIZE, WORD, INSTRUCTION come before both, as they apply."
 -- `listing_of` is a program's listing, byte for byte; `listed` and `listed_in` are what `listing_writer::list`
 -- promises, and `Assembles` what `listing_reader::read_listing` does, over what a text means (listing_spec).
--- Declared in src/: Answer (answer); Transcribed (listing_spec).
 use Rattle.std.specs.Prelude.{ℕ, ◌*◌, ◌/◌, ◌≤◌, ◌<◌, false, List, ◌++◌, ◌↔◌, ◌≡◌, length, take, drop, get_or}
 use Rattle.answer.specs.Verdicts.{accepted}
-use Rattle.answer.specs.declared.Answer.TheVariants.{Accepted, Listing, Short}
+use Rattle.answer.specs.Answers.{Accepted, Listing, Short}
 use Rattle.text_patterns.specs.Place.{Place}
 use Rattle.listing_spec.specs.Listing.{listing_of}
 use Rattle.listing_spec.specs.Program.{program_tests, WellFormedProgram}
 use Rattle.listing_spec.specs.Writing.{list_answer, listed, listed_in}
 use Rattle.listing_spec.specs.Reading.{ValidListing, Sense, Means, Assembles}
-use Rattle.listing_spec.specs.declared.Transcribed.{Transcribed}
+use Rattle.listing_spec.specs.Writing.{Transcribed}
 
 pub record Listings : Type 0 where
   -- a program's listing reads back as it, word for word, and the bytes after it stay

@@ -3,4 +3,3 @@ pub mod Parts
 pub mod Lines
 pub mod Listable
 pub mod ByFields
-pub mod Known

@@ -1,21 +1,18 @@
 -- Inner: a line's fields, each behind the one before it, as the reader goes, and lines one after the other. The promise
 -- (listing_spec, specs/Reading) knows nothing of this.
--- Declared in src/: Operand, Kind, Form (form); Cursor (text_fields); Span (listing_forms); FormRead (here).
-use Rattle.std.specs.Prelude.{ℕ, ◌-◌, ◌≤◌, true, false, cond, List, [], ◌∷◌, ◌≡◌, eqb, length, drop}
+-- Declared in src/: Operand, Kind, Form (form); Span (listing_forms).
+use Rattle.std.specs.Prelude.{ℕ, cond, List, [], ◌∷◌, eqb}
 use Rattle.form.specs.declared.Operand.{Operand}
 use Rattle.form.specs.declared.Kind.{Kind}
 use Rattle.form.specs.declared.Kind.TheVariants.{Add, Mul, Deref, Jump, Extension}
 use Rattle.form.specs.declared.Form.{Form}
-use Rattle.text_patterns.specs.Pattern.{Pattern, done, lit, seq, many, Parsed, got, left, parse, onto}
+use Rattle.text_patterns.specs.Pattern.{Pattern, done, lit, seq, many}
 use Rattle.text_patterns.specs.Fields.{one, number}
 use Rattle.text_fields.specs.Digit.{decimal_value, index_in}
-use Rattle.text_fields.specs.Field.{standing}
-use Rattle.text_fields.specs.declared.Cursor.{Cursor}
 use Rattle.listing_spec.specs.Listing.{op_key, a_key, n_key}
 use Rattle.listing_forms.specs.Ranges.{op_of, mode_of, a_range, b_range, c_range}
 use Rattle.listing_forms.specs.Forms.{greatest}
 use Rattle.listing_forms.specs.declared.Span.{Span}
-use Rattle.listing_line.specs.declared.FormRead.{FormRead}
 
 -- a kind by its first letter, a m d j x, an operation by its second, a m p, a mode by its first, i c f
 abbrev pub kind_letters : List ℕ
@@ -100,26 +97,3 @@ line_fields = lit op_key (seq (one (index_in kind_letters) 0 4) (λ k. seq (op_t
 -- 1 to 2^20 lines
 unfoldable pub listing_lines : Pattern (List Form)
 listing_lines = seq line_fields (λ f. many line_fields 1048575 (f ∷ []))
-
--- a form and the bytes behind it; or those from which on the text is no line's
-abbrev pub line_as : List ℕ → FormRead → Parsed Form
-line_as text r = cond r.stopped (left (drop r.at text)) (got r.form (drop r.at text))
-
--- the form of a line that is none
-abbrev pub no_form : Form
-no_form = form_from Add (operand_from 0 0) (operand_from 0 0) (operand_from 0 0)
-
--- a reading of a text's last bytes: a form and the place behind its line, or the place where the text leaves every
--- valid one
-abbrev pub read_as : List ℕ → Parsed Form → FormRead
-read_as text (got form rest) = record { form = form; at = length text - length rest; stopped = false }
-read_as text (left rest) = record { form = no_form; at = length text - length rest; stopped = true }
-
--- the pattern's own reading of a line from a place on, and of its end from where a cursor stands
-pub record LineRead (text : List ℕ) (from : ℕ) (r : FormRead) : Type 0 where
-  pub inside : r.at ≤ length text
-  pub read : parse line_fields (drop from text) ≡ line_as text r
-
-pub record CallRead (text : List ℕ) (from : Cursor) (k o : ℕ) (a b c : Operand) (r : FormRead) : Type 0 where
-  pub inside : r.at ≤ length text
-  pub read : onto (λ v. parse (from_call k o a b c)) (standing text from) ≡ line_as text r

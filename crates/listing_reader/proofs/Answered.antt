@@ -6,12 +6,12 @@ use mathlib.Core.Path.{◌≡◌, refl, sym, ap, subst, ◌∙◌}
 use native.Mathlib.Omega.{arith}
 use borrow.Author.Tests.{le-leb, lt-leb}
 use lib.ListN.{length, drop}
-use Rattle.answer.specs.declared.Answer.TheVariants.{Accepted, Listing, Short}
+use Rattle.answer.specs.Answers.{Accepted, Listing, Short}
 use Rattle.form.specs.declared.Form.{Form}
 use Rattle.text_patterns.specs.Pattern.{Parsed, got, left, parse}
 use Rattle.text_fields.proofs.Standing.{place_left}
 use Rattle.listing_spec.specs.Reading.{Sense, Lists, LeavesAt, Means, Assembles}
-use Rattle.listing_spec.specs.declared.Transcribed.{Transcribed}
+use Rattle.listing_spec.specs.Writing.{Transcribed}
 use Rattle.listing_forms.specs.Forms.{program_of}
 use Rattle.listing_forms.proofs.Programs.{program_long}
 use Rattle.listing_line.specs.Line.{listing_lines}

@@ -1,14 +1,12 @@
 -- Line by line: where the reading of a listing stands once some lines are read, and how it ends.
 -- Assumes nothing.
 use Prim.Native.Nat.{ℕ, zero, suc, ◌+◌, ◌-◌, ◌≤◌, ◌<◌}
-use mathlib.Core.Bool.{true, false}
+use mathlib.Core.Bool.{true}
 use mathlib.Core.List.{List, [], ◌∷◌, ◌++◌}
 use mathlib.Core.Path.{◌≡◌, refl, sym, ap, ◌∙◌}
 use native.Mathlib.Omega.{arith}
-use lib.Dec.{eqb}
 use lib.ListN.{length, drop, length-append, drop_of_length-le}
 use lib.Seq.{drop-cons}
-use borrow.Author.Tests.{eq-eqb, ne_eqb}
 use Rattle.word.proofs.Tests.{cases}
 use Rattle.form.specs.declared.Form.{Form}
 use Rattle.text_patterns.specs.Pattern.{Pattern, done, node, more, lit, seq, opt, many, Parsed, got, left, parse, onto}
@@ -16,10 +14,10 @@ use Rattle.text_patterns.proofs.Parsing.{parse_seq, parse_spells}
 use Rattle.text_patterns.proofs.Patterns.{spells_kind}
 use Rattle.text_patterns.proofs.Many.{Lines, spelling_many}
 use Rattle.listing_forms.specs.Forms.{Listable}
-use Rattle.listing_line.specs.Line.{line_fields, listing_lines, line_as, LineRead}
-use Rattle.listing_line.specs.declared.FormRead.{FormRead}
+use Rattle.text_fields.specs.Field.{Reaches, Stops}
+use Rattle.listing_line.specs.Line.{line_fields, listing_lines}
 use Rattle.listing_line.proofs.Listable.{spelling_line}
-use Rattle.listing_reader.specs.Walk.{whole, cut, end_from, ending, WalkRead}
+use Rattle.listing_reader.specs.Walk.{whole, cut, end_from, ending}
 
 -- what may follow the lines that are read, with room for r more behind the next
 abbrev Next : ℕ → List Form → Pattern (List Form)
@@ -76,22 +74,22 @@ module _ (text : List ℕ) where
         ∙ ap (λ (l : List ℕ). end_from (got fs l)) (drop-cons text at 0 h)
         ∙ ap cut (sym (drop-cons text at 0 h))
 
-    module _ (few : length fs < 1048576) (h : at < length text) (r : FormRead) (l : LineRead text at r) where
+    module _ (few : length fs < 1048576) (h : at < length text) where
       abbrev left_over : ℕ
       left_over = s.room - 1
 
-      toward : ending text ≡ end_from (onto (λ f. parse (many line_fields left_over (fs ++ (f ∷ [])))) (line_as text r))
-      toward =
+      toward : (p : Parsed Form) → parse line_fields (drop at text) ≡ p → ending text ≡ end_from (onto (λ f. parse (many line_fields left_over (fs ++ (f ∷ [])))) p)
+      toward p is =
           s.ends left_over (omega (arith, s.counted))
           ∙ ap (λ (t : List ℕ). end_from (parse (Rest left_over fs) t)) (drop-cons text at 0 h)
           ∙ on_byte left_over fs _ _
           ∙ ap (λ (t : List ℕ). end_from (parse (Next left_over fs) t)) (sym (drop-cons text at 0 h))
           ∙ ap end_from (parse_seq Listable (λ f. many line_fields left_over (fs ++ (f ∷ []))) line_fields (drop at text) spelling_line.live)
-          ∙ ap (λ (p : Parsed Form). end_from (onto (λ f. parse (many line_fields left_over (fs ++ (f ∷ [])))) p)) l.read
+          ∙ ap (λ (q : Parsed Form). end_from (onto (λ f. parse (many line_fields left_over (fs ++ (f ∷ [])))) q)) is
 
       -- the next line stops
-      pub stops : r.stopped ≡ true → ending text ≡ cut (drop r.at text)
-      stops e = toward ∙ rw e
+      pub stops : {to : ℕ} → Stops line_fields text at to → ending text ≡ cut (drop to text)
+      stops {to} l = toward (left (drop to text)) l.read
 
       one_more : (m : ℕ) (f : Form) (t : List ℕ) → end_from (parse (many line_fields (suc m) (fs ++ (f ∷ []))) t) ≡ end_from (parse (Rest m (fs ++ (f ∷ []))) t)
       one_more m f t = go fs
@@ -101,15 +99,15 @@ module _ (text : List ℕ) where
           go (g ∷ gs) = refl
 
       -- or is read
-      pub goes : r.stopped ≡ false → Behind text r.at (fs ++ (r.form ∷ []))
+      pub goes : {f : Form} {to : ℕ} → Reaches line_fields text at f to → Behind text to (fs ++ (f ∷ []))
       unfolding many
-      goes e =
-          let on : ending text ≡ end_from (parse (many line_fields left_over (fs ++ (r.form ∷ []))) (drop r.at text)) = toward ∙ rw e in
+      goes {f} {to} l =
+          let on : ending text ≡ end_from (parse (many line_fields left_over (fs ++ (f ∷ []))) (drop to text)) = toward (got f (drop to text)) l.read in
           record {
             room = left_over;
-            counted = omega (arith, length-append fs (r.form ∷ []), s.counted);
+            counted = omega (arith, length-append fs (f ∷ []), s.counted);
             inside = l.inside;
-            ends = λ m z. on ∙ (rw (← z) (one_more m r.form (drop r.at text)));
+            ends = λ m z. on ∙ (rw (← z) (one_more m f (drop to text)));
             full = λ z. on ∙ rw z;
           }
 
@@ -172,8 +170,7 @@ module _ (text : List ℕ) (at : ℕ) (gs : List Form) (e : ending text ≡ whol
   pub in_front : (fs : List Form) → Behind text at fs → (zs : List Form) × (fs ++ zs ≡ gs)
   in_front fs s = front_by s.room fs s.ends s.full
 
--- the walk's last word: all of the text is read, and there is a line or none
-pub walked_out : (text : List ℕ) (at lines : ℕ) (fs : List Form) → length fs ≡ lines → Behind text at fs → length text ≤ at
-    → WalkRead text (record { at = at; lines = lines; stopped = eqb lines 0 })
-walked_out text at lines [] e s h = rw (eq-eqb lines 0 (sym e)) (s.inside, nothing_read text at s h)
-walked_out text at lines (f ∷ fs) e s h = rw (ne_eqb lines 0 (λ z. omega (arith, e, z))) (record { forms = f ∷ fs; many = e; ends = all_read text at (f ∷ fs) s (omega arith) h })
+-- the walk's last word: all of the text is read, and there is no line
+pub no_line_read : (text : List ℕ) (at : ℕ) (fs : List Form) → length fs ≡ 0 → Behind text at fs → length text ≤ at → ending text ≡ cut (drop at text)
+no_line_read text at [] e s h = nothing_read text at s h
+no_line_read text at (f ∷ fs) e s h = absurd (omega arith)

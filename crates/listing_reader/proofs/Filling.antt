@@ -3,11 +3,11 @@
 use Prim.Native.Nat.{ℕ, ◌+◌, ◌-◌, ◌*◌, ◌≤◌, ◌<◌}
 use mathlib.Core.Bool.{false}
 use mathlib.Core.List.{List, [], ◌∷◌, ◌++◌, append_assoc, append-nil}
-use mathlib.Core.Path.{◌≡◌, sym, ap, ◌∙◌}
+use mathlib.Core.Path.{◌≡◌, refl, sym, ap, ◌∙◌}
 use native.Mathlib.Omega.{arith}
 use lib.ListN.{length, take, drop, length-append}
 use lib.Seq.{take_at, drop_at, drop-drop}
-use Rattle.word.proofs.Tests.{cases, by_order}
+use Rattle.word.proofs.Tests.{by_order}
 use Rattle.word.proofs.Concatenated.{lent_length}
 use Rattle.form.specs.Instruction.{instruction_words}
 use Rattle.form.specs.declared.Instruction.{Instruction}
@@ -17,8 +17,11 @@ use Rattle.text_patterns.specs.Pattern.{parse}
 use Rattle.text_patterns.proofs.Parsing.{parse_kind}
 use Rattle.listing_forms.specs.Forms.{Listable, form_instruction, form_bytes, program_of}
 use Rattle.listing_forms.proofs.Programs.{program_long, program_of_snoc}
-use Rattle.listing_line.specs.Line.{line_fields, listing_lines, LineRead}
-use Rattle.listing_line.specs.declared.FormRead.{FormRead}
+use Rattle.std.specs.Prelude.{Result, Ok, Err, IsOk}
+use Rattle.text_fields.specs.Field.{Reaches, Read}
+use Rattle.text_fields.specs.declared.Field.{Field}
+use Rattle.text_fields.specs.declared.Stop.{Stop}
+use Rattle.listing_line.specs.Line.{line_fields, listing_lines}
 use Rattle.listing_line.proofs.Listable.{spelling_line}
 use Rattle.listing_law.proofs.Senses.{Forms, read_forms}
 use Rattle.listing_reader.specs.Walk.{whole, ending}
@@ -41,16 +44,16 @@ module _ (text : List ℕ) (gs : List Form) (is : ending text ≡ whole gs) wher
     bytes_left : at < length text
     bytes_left = by_order at (length text) (λ h. h) (λ h. absurd (over_by at fs s fewer h))
 
-    module _ (r : FormRead) (l : LineRead text at r) where
-      on : r.stopped ≡ false
-      on = cases r.stopped (λ e. absurd (not_both gs (drop r.at text) (sym is ∙ stops text at fs s few bytes_left r l e))) (λ e. e)
+    pub on : (r : Result (Field Form) Stop) → Read line_fields text at r → IsOk r
+    on (Ok l) h = refl
+    on (Err e) h = absurd (not_both gs (drop e.at text) (sym is ∙ stops text at fs s few bytes_left h))
 
-      pub next_line : Behind text r.at (fs ++ (r.form ∷ []))
-      next_line = goes text at fs s few bytes_left r l on
+    module _ {f : Form} {to : ℕ} (l : Reaches line_fields text at f to) where
+      pub next_line : Behind text to (fs ++ (f ∷ []))
+      next_line = goes text at fs s few bytes_left l
 
-      pub its_form : Listable r.form
-      its_form =
-          parse_kind false Listable line_fields (drop at text) r.form (drop r.at text) spelling_line.live (l.read ∙ rw on)
+      pub its_form : Listable f
+      its_form = parse_kind false Listable line_fields (drop at text) f (drop to text) spelling_line.live l.read
 
   -- as many lines as the listing has are all of them
   none_more : (fs zs : List Form) → fs ++ zs ≡ gs → length fs ≡ length gs → fs ≡ gs

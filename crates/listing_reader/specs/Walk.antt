@@ -1,12 +1,12 @@
 -- Inner: how the reader's walk over the lines ends: with all of the text read, or with bytes left from which on it is
 -- no listing.
--- Declared in src/: Form (form); LineCount (here).
-use Rattle.std.specs.Prelude.{ℕ, ◌*◌, ◌≤◌, Bool, true, false, List, [], ◌∷◌, ◌++◌, ◌≡◌, length, drop}
+-- Declared in src/: Form (form); Stop (text_fields).
+use Rattle.std.specs.Prelude.{ℕ, ◌*◌, ◌≤◌, List, [], ◌∷◌, ◌++◌, ◌≡◌, length, drop, Result, MatchResult}
 use Rattle.form.specs.declared.Form.{Form}
 use Rattle.text_patterns.specs.Pattern.{Parsed, got, left, parse}
 use Rattle.listing_forms.specs.Forms.{program_of}
 use Rattle.listing_line.specs.Line.{listing_lines}
-use Rattle.listing_reader.specs.declared.LineCount.{LineCount}
+use Rattle.text_fields.specs.declared.Stop.{Stop}
 
 pub data End : Type 0 where
   whole : List Form → End
@@ -32,10 +32,6 @@ abbrev pub filled_by : End → List ℕ → List ℕ
 filled_by (whole forms) buffer = program_of forms ++ drop (48 * length forms) buffer
 filled_by (cut rest) buffer = buffer
 
--- what the walk promises: where it stopped, or how many lines there are
-abbrev pub WalkedBy : Bool → List ℕ → LineCount → Type 0
-WalkedBy true text r = (r.at ≤ length text) × (ending text ≡ cut (drop r.at text))
-WalkedBy false text r = Wholly text r.lines
-
-abbrev pub WalkRead : List ℕ → LineCount → Type 0
-WalkRead text r = WalkedBy r.stopped text r
+-- what the walk promises: how many lines there are, or where the text leaves every listing
+abbrev pub WalkRead : List ℕ → Result ℕ Stop → Type 0
+WalkRead text r = MatchResult r (Wholly text) (λ s. (s.at ≤ length text) × (ending text ≡ cut (drop s.at text)))

@@ -12,13 +12,11 @@ pub(crate) fn put_forms(text: &[u8], lines: usize, program: &mut [u8])
     ensures { program.new ≡ filled_by (ending text.now) program.old }
 {
     let mut place = 0;
-    let mut i = 0;
-    while i < lines {
-        let line = read_line(text, place);
+    for i in 0..lines {
+        let line = read_line(text, place).unwrap();
         let at = 48 * i;
         let end = at + 48;
-        put_instruction(&mut program[at..end], form_instruction(line.form));
+        put_instruction(&mut program[at..end], form_instruction(line.value));
         place = line.at;
-        i += 1;
     }
 }

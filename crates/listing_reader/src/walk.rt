@@ -2,37 +2,25 @@
 ghost use Rattle.std.specs.Prelude.{◌≡◌};
 ghost use Rattle.listing_reader.specs.Walk.{WalkRead};
 
-use crate::LineCount;
 use listing_line::read_line;
+use text_fields::Stop;
 
-// Line by line, up to the first byte that no listing has there.
-pub(crate) fn walk_lines(text: &[u8]) -> LineCount
+// Line by line, up to the first byte that no listing has there: how many lines there are.
+pub(crate) fn walk_lines(text: &[u8]) -> Result<usize, Stop>
     ensures { WalkRead text.now result }
 {
     let mut at = 0;
     let mut lines = 0;
     while at < text.len() {
         if lines == 1048576 {
-            return LineCount {
-                at,
-                lines,
-                stopped: true, // nothing follows line 2^20
-            };
+            return Err(Stop { at }); // nothing follows line 2^20
         }
-        let line = read_line(text, at);
-        if line.stopped {
-            return LineCount {
-                at: line.at,
-                lines,
-                stopped: true,
-            };
-        }
+        let line = read_line(text, at)?;
         at = line.at;
         lines += 1;
     }
-    LineCount {
-        at,
-        lines,
-        stopped: lines == 0, // a listing has a line
+    if lines == 0 {
+        return Err(Stop { at }); // a listing has a line
     }
+    Ok(lines)
 }

@@ -1,7 +1,7 @@
 -- Document 02, M-105: one instruction is one LF-ended line of key=value fields separated by single spaces, in fixed
 -- order: op=, a=, b=, c=, and for extension be= and n=. Texts are given as their bytes, in ASCII.
--- Declared in src/: Op, Mode, Operand, Kind, Form, Decoded (form).
-use Rattle.std.specs.Prelude.{ℕ, ◌*◌, ◌/◌, List, [], ◌∷◌, ◌++◌, length}
+-- Declared in src/: Op, Mode, Operand, Kind, Form (form).
+use Rattle.std.specs.Prelude.{ℕ, ◌*◌, ◌/◌, List, [], ◌∷◌, ◌++◌, length, Option, Some, None}
 use Rattle.word.specs.Bytes.{concatenated}
 use Rattle.lines.specs.Line.{decimal}
 use Rattle.form.specs.Data.{bit}
@@ -14,8 +14,6 @@ use Rattle.form.specs.declared.Operand.{Operand}
 use Rattle.form.specs.declared.Kind.{Kind}
 use Rattle.form.specs.declared.Kind.TheVariants.{Add, Mul, Deref, Jump, Extension}
 use Rattle.form.specs.declared.Form.{Form}
-use Rattle.form.specs.declared.Decoded.{Decoded}
-use Rattle.form.specs.declared.Decoded.TheVariants.{Malformed, Well}
 
 -- add, mul, deref, jump, xadd, xmul, xpeq
 abbrev pub op_text : Kind → List ℕ
@@ -75,9 +73,9 @@ form_line f =
     ++ (10 ∷ [])
 
 -- a malformed instruction has none
-abbrev pub decoded_line : Decoded → List ℕ
-decoded_line Malformed = []
-decoded_line (Well f) = form_line f
+abbrev pub decoded_line : Option Form → List ℕ
+decoded_line None = []
+decoded_line (Some f) = form_line f
 
 -- the line of instruction i of a program's bytes
 abbrev pub instruction_line : List ℕ → ℕ → List ℕ

@@ -1,8 +1,6 @@
 -- Document 01, "Verdicts", and document 02, M-105: SIZE, WORD and INSTRUCTION as they apply to a program by itself.
--- Declared in src/: Answer (answer).
 use Rattle.std.specs.Prelude.{ℕ, ◌*◌, ◌/◌, ◌<◌, true, cond, List, [], ◌≡◌, T, length, get_or}
-use Rattle.answer.specs.declared.Answer.{Answer}
-use Rattle.answer.specs.declared.Answer.TheVariants.{Size}
+use Rattle.answer.specs.Answers.{Answer, Size}
 use Rattle.form.specs.Form.{well_formed}
 use Rattle.form.specs.Instruction.{instruction_at}
 use Rattle.rules.specs.Sizes.{program_fits, given}

@@ -1,14 +1,11 @@
 -- Document 02, M-105, the reader: LISTING with the first byte that no valid listing could have there, or the text's
 -- end; then SHORT with the bytes needed. Nothing here says how a reader goes.
--- Declared in src/: Answer (answer); Transcribed (here).
 use Rattle.std.specs.Prelude.{ℕ, List, [], ◌≡◌, length}
-use Rattle.answer.specs.declared.Answer.{Answer}
-use Rattle.answer.specs.declared.Answer.TheVariants.{Listing}
+use Rattle.answer.specs.Answers.{Answer, Listing}
 use Rattle.text_patterns.specs.Place.{Place}
 use Rattle.listing_spec.specs.Listing.{listing_of}
 use Rattle.listing_spec.specs.Program.{WellFormedProgram}
-use Rattle.listing_spec.specs.Writing.{within, transcribed, transcribed_in}
-use Rattle.listing_spec.specs.declared.Transcribed.{Transcribed}
+use Rattle.listing_spec.specs.Writing.{Transcribed, within, transcribed, transcribed_in}
 
 -- a text is valid if it is the listing of a well-formed program
 abbrev pub ValidListing : List ℕ → Type 0

@@ -1,12 +1,11 @@
 -- Document 02, M-105, the writer: SIZE, WORD and INSTRUCTION come before SHORT, whose place is the bytes needed.
--- Declared in src/: Answer (answer); Transcribed (here).
-use Rattle.std.specs.Prelude.{ℕ, cond, List, ◌++◌, leb, length, drop}
+-- Declared in src/: Refusal (answer).
+use Rattle.std.specs.Prelude.{ℕ, Result, cond, List, ◌++◌, leb, length, drop}
 use Rattle.answer.specs.Verdicts.{accepted}
-use Rattle.answer.specs.declared.Answer.{Answer}
-use Rattle.answer.specs.declared.Answer.TheVariants.{Accepted, Short}
+use Rattle.answer.specs.declared.Refusal.{Refusal}
+use Rattle.answer.specs.Answers.{Answer, Accepted, Short, answer_of, number_of}
 use Rattle.listing_spec.specs.Listing.{listing_of}
 use Rattle.listing_spec.specs.Program.{program_tests}
-use Rattle.listing_spec.specs.declared.Transcribed.{Transcribed}
 
 -- so many bytes are needed, in a buffer of so many
 abbrev pub within : ℕ → ℕ → Answer
@@ -15,6 +14,15 @@ within needed room = cond (leb needed room) Accepted (Short needed)
 -- the answer to a program and the room for its listing
 unfoldable pub list_answer : List ℕ → ℕ → Answer
 list_answer program room = program_tests program (within (length (listing_of program)) room)
+
+-- what writing or reading a listing did: the bytes written, 0 where it was refused
+pub record Transcribed : Type 0 where
+  pub answer : Answer
+  pub written : ℕ
+
+-- of a call that gives the bytes written where it is accepted
+abbrev pub transcribed_by : Result ℕ Refusal → Transcribed
+transcribed_by r = record { answer = answer_of r; written = number_of r }
 
 -- of some bytes those that are written: all of them, or none where the answer is a refusal
 abbrev pub transcribed : Answer → List ℕ → Transcribed

@@ -9,12 +9,10 @@ use lib.ListN.{length}
 use borrow.Author.Tests.{eqb-true, leb-true, lt-ltb, le-ltb, le-leb, lt-leb}
 use Rattle.word.proofs.Tests.{each}
 use Rattle.rules.specs.Sizes.{program_fits, given}
-use Rattle.answer.specs.declared.Answer.{Answer}
-use Rattle.answer.specs.declared.Answer.TheVariants.{Accepted, Size, Word, Instruction, Short}
+use Rattle.answer.specs.Answers.{Answer, Accepted, Size, Word, Instruction, Short}
 use Rattle.judge_spec.specs.Judged.{first_word, first_malformed}
 use Rattle.listing_spec.specs.Listing.{listing_of}
-use Rattle.listing_spec.specs.Writing.{list_answer, transcribed, transcribed_in, listed, listed_in}
-use Rattle.listing_spec.specs.declared.Transcribed.{Transcribed}
+use Rattle.listing_spec.specs.Writing.{Transcribed, list_answer, transcribed, transcribed_in, listed, listed_in}
 
 -- nothing is written
 abbrev pub nothing : Answer → Transcribed
@@ -22,8 +20,13 @@ nothing a = record { answer = a; written = 0 }
 
 module _ (program text : List ℕ) where
   -- what is returned and the text are what the promise says
-  abbrev Kept : Transcribed → List ℕ → Type 0
+  abbrev pub Kept : Transcribed → List ℕ → Type 0
   Kept r after = (r ≡ listed program text) × (after ≡ listed_in program text)
+
+  -- of what is returned the answer and the number
+  pub kept_parts : {r : Transcribed} {after : List ℕ} → Kept r after
+      → (r.answer ≡ (listed program text).answer) × (r.written ≡ (listed program text).written) × (after ≡ listed_in program text)
+  kept_parts k = (ap (λ (t : Transcribed). t.answer) k.0, ap (λ (t : Transcribed). t.written) k.0, k.1)
 
   kept : {a : Answer} → a ≡ list_answer program (length text) → {after : List ℕ} → after ≡ transcribed_in a (listing_of program) text
       → Kept (transcribed a (listing_of program)) after

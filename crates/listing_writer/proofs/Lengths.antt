@@ -1,14 +1,11 @@
--- How long a form's line is, by its parts; and how many digits a word has.
+-- How long a form's line is, by its parts.
 -- Assumes nothing.
-use Prim.Native.Nat.{ℕ, ◌+◌, ◌^◌, ◌≤◌, ◌<◌}
+use Prim.Native.Nat.{ℕ, ◌+◌}
 use mathlib.Core.Bool.{Bool, true, false}
 use mathlib.Core.List.{List, [], ◌∷◌, ◌++◌}
 use mathlib.Core.Path.{◌≡◌, refl, ap}
-use native.Mathlib.Nat.{pow-le-pow_right}
 use native.Mathlib.Omega.{arith}
-use lib.Dec.{ltb, lit<}
 use lib.ListN.{length, length-append}
-use borrow.Author.Tests.{ltb-true, ltb-false}
 use Rattle.lines.specs.Line.{decimal}
 use Rattle.form.specs.declared.Op.{Op}
 use Rattle.form.specs.declared.Op.TheVariants as op
@@ -17,14 +14,6 @@ use Rattle.form.specs.declared.Form.{Form}
 use Rattle.listing_spec.specs.Listing.{op_text, op_key, a_key, b_key, c_key, operand_text, call_text, form_line}
 use Rattle.listing_writer.specs.Pieces.{be_text}
 use Rattle.listing_writer.proofs.Pieces.{call_text_lem}
-
--- a power of ten that is a word has at most nine zeros
-pub zeros : (k x : ℕ) → 10 ^ k ≤ x → x < 2 ^ 32 → k < 10
-zeros k x low word = by_test (ltb k 10) refl
-  where
-    by_test : (b : Bool) → ltb k 10 ≡ b → k < 10
-    by_test true t = ltb-true k 10 t
-    by_test false t = absurd (omega (arith, pow-le-pow_right {n = 10} (lit< tt) (ltb-false k 10 t)))
 
 -- the operation's name, be= and n= of an extension
 pub extension_length : (o : Op) (be : Bool) (n : ℕ)

@@ -1,13 +1,15 @@
 -- A form's line is its pieces, one after the other, and an operand's piece its key and a number.
 -- Assumes nothing.
-use Prim.Native.Nat.{ℕ, ◌+◌, ◌≤◌}
+use Prim.Native.Nat.{ℕ, ◌+◌}
 use mathlib.Core.Bool.{Bool, true, false}
 use mathlib.Core.List.{List, [], ◌∷◌, ◌++◌, append_assoc}
 use mathlib.Core.Path.{◌≡◌, refl, ap, ◌∙◌}
 use native.Mathlib.Omega.{arith}
 use lib.ListN.{length, length-append}
 use Rattle.lines.specs.Line.{decimal, decimal_in, numbered}
-use Rattle.lines.proofs.Placing.{Stands, stands_next}
+use Rattle.lines.specs.Putting.{Room, Put}
+use Rattle.lines.specs.declared.Out.{Out}
+use Rattle.lines.proofs.Putting.{put_next}
 use Rattle.form.specs.declared.Op.{Op}
 use Rattle.form.specs.declared.Mode.{Mode}
 use Rattle.form.specs.declared.Operand.{Operand}
@@ -69,11 +71,37 @@ pub operand_length : (key : List ℕ) (o : Operand) (end : ℕ) {m : Mode} → o
     → length (operand_piece key o end) ≡ length key + length (numbered (mode_name m) o.word end)
 operand_length key o end {m} e = rw e (length-append key (numbered (mode_name m) o.word end))
 
--- and it stands where its key stands and then the number
-pub operand_stands : (out : List ℕ) (at : ℕ) (key : List ℕ) (o : Operand) (end : ℕ) {m : Mode} {middle last : ℕ} {l n : List ℕ} → o.mode ≡ m
-    → at + length (operand_piece key o end) ≤ length out
-    → Stands out at key middle l
-    → Stands l middle (numbered (mode_name m) o.word end) last n
-    → Stands out at (operand_piece key o end) last n
-operand_stands out at key o end {m} e room first then =
-    rw e (stands_next out at key (numbered (mode_name m) o.word end) (omega (arith, operand_length key o end e)) first then)
+-- and its key is put, and then the number
+pub operand_put : (key : List ℕ) (o : Operand) (end : ℕ) {m : Mode} {a b c : Out} → o.mode ≡ m → Room a (operand_piece key o end)
+    → Put a key b
+    → Put b (numbered (mode_name m) o.word end) c
+    → Put a (operand_piece key o end) c
+operand_put key o end e room first then = rw e (put_next (rw e at room) first then)
+
+-- five pieces, each where the one before it ends
+module _ (f : Form) where
+  abbrev first : List ℕ
+  first = op_piece f.kind
+
+  abbrev second : List ℕ
+  second = operand_piece (97 ∷ 61 ∷ []) f.a 32
+
+  abbrev third : List ℕ
+  third = operand_piece (98 ∷ 61 ∷ []) f.b 32
+
+  abbrev fourth : List ℕ
+  fourth = operand_piece (99 ∷ 61 ∷ []) f.c (end_byte f.kind)
+
+  abbrev fifth : List ℕ
+  fifth = call_piece f.kind
+
+  pub line_put : {a b c d e g : Out} → Room a (form_line f) → Put a first b → Put b second c → Put c third d → Put d fourth e → Put e fifth g
+      → Put a (form_line f) g
+  line_put room p q r s t =
+      let two = length-append first second in
+      let three = length-append (first ++ second) third in
+      let four = length-append (first ++ second ++ third) fourth in
+      rw (line_pieces f)
+      (put_next (rw (line_pieces f) at room)
+      (put_next (omega (arith, pieces_length f)) (put_next (omega (arith, pieces_length f)) (put_next (omega (arith, pieces_length f)) p q) r) s)
+      t)

@@ -9,23 +9,18 @@ use form::{Form, Kind, Mode, Operand};
 fn digits(x: u32) -> usize
     ensures { (result ≡ length (decimal x)) × (result ≤ 10) }
 {
-    let number = x as u64;
-    let mut above: u64 = 10;
-    let mut more = 0;
-    while above <= number {
-        above *= 10;
-        more += 1;
+    match x.checked_ilog10() {
+        Some(more) => more as usize + 1,
+        None => 1,
     }
-    more + 1
 }
 
 // The mode's name and the digits.
 fn operand_length(o: Operand) -> usize
     ensures { (result ≡ length (operand_text o)) × (result ≤ 15) }
 {
-    let mode = o.mode;
     let n = digits(o.word);
-    match mode {
+    match o.mode {
         Mode::Immediate => 4 + n,
         Mode::Cell => 5 + n,
         Mode::Frame => 3 + n,
@@ -37,11 +32,10 @@ fn kind_length(kind: Kind) -> usize
     ensures { (result ≡ length (op_text kind) + length (call_text kind)) × (result ≤ 22) }
 {
     match kind {
-        Kind::Add => 3,
-        Kind::Mul => 3,
+        Kind::Add | Kind::Mul => 3,
         Kind::Deref => 5,
         Kind::Jump => 4,
-        Kind::Extension { op: _, be: _, n } => 12 + digits(n),
+        Kind::Extension { n, .. } => 12 + digits(n),
     }
 }
 
@@ -49,9 +43,5 @@ fn kind_length(kind: Kind) -> usize
 pub(crate) fn form_length(f: Form) -> usize
     ensures { (result ≡ length (form_line f)) × (result ≤ 80) }
 {
-    let kind = f.kind;
-    let a = f.a;
-    let b = f.b;
-    let c = f.c;
-    13 + kind_length(kind) + operand_length(a) + operand_length(b) + operand_length(c)
+    13 + kind_length(f.kind) + operand_length(f.a) + operand_length(f.b) + operand_length(f.c)
 }

@@ -5,7 +5,7 @@ use mathlib.Core.List.{List}
 use Prim.Native.Nat.{ℕ}
 use lib.ListN.{length}
 use Rattle.answer.specs.Determined.{Determined, equations-of-three}
-use Rattle.answer.specs.declared.Answer.{Answer}
+use Rattle.answer.specs.Answers.{Answer}
 use Rattle.label.specs.declared.Recipe.{Recipe}
 use Rattle.maker_spec.specs.Bytes.{make_of, program_after, memory_after}
 

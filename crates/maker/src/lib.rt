@@ -9,7 +9,7 @@ mod write;
 ghost use Rattle.std.specs.Prelude.{◌≡◌, ◌*◌, ◌^◌, ◌≤◌, length};
 ghost use Rattle.maker_spec.specs.Bytes.{make_of, program_after, memory_after};
 
-use answer::Answer;
+use answer::{Answer, Refusal};
 use label::{Recipe, in_range};
 use write::fill;
 
@@ -27,14 +27,14 @@ pub fn make(recipe: Recipe, program: &mut [u8], memory: &mut [u8]) -> Answer
         × (memory.new ≡ memory_after recipe program.old memory.old) }
 {
     if !in_range(recipe) {
-        return Answer::Size { part: 0, place: 0 };
+        return Err(Refusal::Size { part: 0, place: 0 });
     }
     if program.len() != 48 * (recipe.n as usize + 1) {
-        return Answer::Size { part: 1, place: 0 };
+        return Err(Refusal::Size { part: 1, place: 0 });
     }
     if memory.len() != memory_size(recipe.m) {
-        return Answer::Size { part: 2, place: 0 };
+        return Err(Refusal::Size { part: 2, place: 0 });
     }
-    fill(recipe.version, recipe.seed, recipe.n, program, memory);
-    Answer::Accepted
+    fill(recipe, program, memory);
+    Ok(())
 }

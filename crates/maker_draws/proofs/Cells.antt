@@ -12,7 +12,7 @@ use lib.Seq.{take-suc-set, get_or_at}
 use Rattle.word.specs.Word.{p}
 use Rattle.word.specs.Bytes.{concatenated}
 use Rattle.word.proofs.Concatenated.{parts_length}
-use Rattle.maker_draws.specs.declared.Begun.{Begun}
+use Rattle.draw.specs.declared.Generator.{Generator}
 use Rattle.maker_draws.specs.Drawn.{state_after, after_cell, after_cells, draws_of, cells_drawn, begun_of}
 
 module _ (version seed : ℕ) where
@@ -43,13 +43,13 @@ module _ (version seed : ℕ) where
       (eq-or-lt_of_le (le_of_suc-le-suc h))
 
   -- what `begin` gives
-  module _ (b : Begun) (is : b ≡ begun_of version seed) where
-    pub begun_long : length b.cells ≡ 32
+  module _ (cells : List ℕ) (is : cells ≡ (begun_of version seed).cells) where
+    pub begun_long : length cells ≡ 32
     begun_long = rw is (cells_length 32)
 
-    pub begun_cell : (k : ℕ) → k < 32 → get_or b.cells k 0 ≡ (draws_of version seed).cell k
+    pub begun_cell : (k : ℕ) → k < 32 → get_or cells k 0 ≡ (draws_of version seed).cell k
     begun_cell = rw is (cell_at 32)
 
-    pub begun_state : b.next.state ≡ state_after (after_cells version seed 32) 0
-    unfolding state_after
-    begun_state = rw is
+  pub begun_state : (g : Generator) → g ≡ (begun_of version seed).next → g.state ≡ state_after (after_cells version seed 32) 0
+  unfolding state_after
+  begun_state g is = rw is

@@ -1,13 +1,13 @@
 -- Document 01, "Draws, recipe, label", and document 02, M-103: the maker's draws. First 32 cells, for which versions
 -- other than 1 throw some draws away, then three draws for each instruction.
--- Declared in src/: Generator (draw); Begun, Three (here).
+-- Declared in src/: Generator (draw); KindDrawn (here).
 use Rattle.std.specs.Prelude.{Bool, cond, ◌||◌, List, [], ◌∷◌, ℕ, zero, suc, ◌+◌, ◌*◌, ◌/◌, ◌%◌, ◌^◌, ltb, eqb}
 use Rattle.word.specs.Word.{p}
 use Rattle.word.specs.Bytes.{concatenated}
 use Rattle.draw.specs.Draw.{advance}
 use Rattle.draw.specs.declared.Generator.{Generator}
-use Rattle.maker_draws.specs.declared.Begun.{Begun}
-use Rattle.maker_draws.specs.declared.Three.{Three}
+use Rattle.maker_draws.specs.declared.KindDrawn.{KindDrawn}
+use Rattle.maker_draws.specs.declared.KindDrawn.TheVariants.{Add, Mul, Deref, Jump, Extension}
 
 -- what is drawn for a program: cells 0 to 31, and kind, a and c of instruction i
 pub record Draws : Type 0 where
@@ -59,10 +59,20 @@ abbrev pub cells_drawn : ℕ → ℕ → ℕ → List ℕ
 cells_drawn version seed k = concatenated (λ j. (draws_of version seed).cell j ∷ []) k
 
 -- the cells, beside the generator after them
+pub record Begun : Type 0 where
+  pub cells : List ℕ
+  pub next : Generator
+
 abbrev pub begun_of : ℕ → ℕ → Begun
 begun_of version seed = record { cells = cells_drawn version seed 32; next = record { state = after_cells version seed 32 } }
 
 -- an instruction's three draws, beside the generator after them
+pub record Three : Type 0 where
+  pub kind : ℕ
+  pub a : ℕ
+  pub c : ℕ
+  pub next : Generator
+
 abbrev pub three_of : Generator → Three
 three_of g =
     record {
@@ -71,3 +81,11 @@ three_of g =
       c = drawn g.state 2 % 32;
       next = record { state = state_after g.state 3 };
     }
+
+-- the number that a kind is drawn as
+abbrev pub drawn_number : KindDrawn → ℕ
+drawn_number Add = 0
+drawn_number Mul = 1
+drawn_number Deref = 2
+drawn_number Jump = 3
+drawn_number Extension = 4

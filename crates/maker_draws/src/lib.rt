@@ -1,10 +1,10 @@
 // The maker's draws: 32 cells, then three numbers for each instruction.
 #![tactic(auto)]
 
-ghost use Rattle.std.specs.Prelude.{◌≡◌, ◌/◌, ◌^◌};
-ghost use Rattle.maker_draws.specs.Drawn.{after_cell, begun_of, three_of};
+ghost use Rattle.std.specs.Prelude.{◌≡◌, ◌/◌, ◌%◌, ◌^◌};
+ghost use Rattle.maker_draws.specs.Drawn.{after_cell, begun_of, drawn_number, three_of};
 
-use draw::{Drawn, Generator};
+use draw::Generator;
 
 // p
 const P: u32 = 2130706433;
@@ -12,67 +12,70 @@ const P: u32 = 2130706433;
 // 2·p: numbers from here on would give the lowest values a third time
 const KEPT_BELOW: u32 = 4261412866;
 
-// Cells 0 to 31, and the generator after them.
-#[derive(Drop)]
-pub struct Begun {
-    pub cells: [u32; 32],
-    pub next: Generator,
+// An instruction's kind, as it is drawn.
+#[derive(Clone, Copy, PartialEq, Eq)]
+pub enum KindDrawn {
+    Add,
+    Mul,
+    Deref,
+    Jump,
+    Extension,
 }
 
-// An instruction's kind, a and c, and the generator after them.
+// An instruction's kind, a and c.
 #[derive(Clone, Copy)]
 pub struct Three {
-    pub kind: u32,
+    pub kind: KindDrawn,
     pub a: u32,
     pub c: u32,
-    pub next: Generator,
 }
 
 // The number for a cell; after eight that are thrown away the ninth is taken whatever it is.
-fn draw_cell(version: u32, generator: Generator) -> Drawn
-    ensures { (result.number ≡ after_cell version generator.state / 2 ^ 32)
-        × (result.next.state ≡ after_cell version generator.state) }
+fn draw_cell(version: u32, generator: &mut Generator) -> u32
+    ensures { (result ≡ after_cell version generator.old.state / 2 ^ 32)
+        × (generator.new.state ≡ after_cell version generator.old.state) }
 {
-    let mut drawn = generator.draw();
-    let mut thrown: u32 = 0;
-    while thrown < 8 && version != 1 && drawn.number >= KEPT_BELOW {
-        let next = drawn.next;
-        drawn = next.draw();
-        thrown += 1;
+    for _thrown in 0..8u32 {
+        let number = generator.next_number();
+        if version == 1 || number < KEPT_BELOW {
+            return number;
+        }
     }
-    drawn
+    generator.next_number()
 }
 
-pub fn begin(version: u32, seed: u64) -> Begun
-    ensures { result ≡ begun_of version seed }
+// Cells 0 to 31.
+pub fn begin(version: u32, generator: &mut Generator) -> [u32; 32]
+    ensures { (result ≡ (begun_of version generator.old.state).cells)
+        × (generator.new ≡ (begun_of version generator.old.state).next) }
 {
-    let mut cells = [0u32; 32];
-    let mut generator = Generator::new(seed);
-    let mut k = 0;
-    while k < 32 {
-        let drawn = draw_cell(version, generator);
-        cells[k] = drawn.number % P;
-        let next = drawn.next;
-        generator = next;
-        k += 1;
+    let mut cells = [0; 32];
+    for k in 0..32 {
+        cells[k] = draw_cell(version, &mut *generator) % P;
     }
-    Begun {
-        cells,
-        next: generator,
+    cells
+}
+
+fn kind_of(number: u32) -> KindDrawn
+    ensures { drawn_number result ≡ number % 5 }
+{
+    match number % 5 {
+        0 => KindDrawn::Add,
+        1 => KindDrawn::Mul,
+        2 => KindDrawn::Deref,
+        3 => KindDrawn::Jump,
+        _ => KindDrawn::Extension,
     }
 }
 
-pub fn draw_three(generator: Generator) -> Three
-    ensures { result ≡ three_of generator }
+pub fn draw_three(generator: &mut Generator) -> Three
+    ensures { (drawn_number result.kind ≡ (three_of generator.old).kind)
+        × (result.a ≡ (three_of generator.old).a)
+        × (result.c ≡ (three_of generator.old).c)
+        × (generator.new ≡ (three_of generator.old).next) }
 {
-    let kind = generator.draw();
-    let a = kind.next.draw();
-    let c = a.next.draw();
-    let next = c.next;
-    Three {
-        kind: kind.number % 5,
-        a: a.number % 32,
-        c: c.number % 32,
-        next,
-    }
+    let kind = kind_of(generator.next_number());
+    let a = generator.next_number() % 32;
+    let c = generator.next_number() % 32;
+    Three { kind, a, c }
 }

@@ -7,7 +7,7 @@ use native.Mathlib.Omega.{arith}
 use lib.Dec.{T, lit<}
 use lib.ListN.{length, get_or}
 use lib.Pow.{pow_mono}
-use Rattle.answer.specs.declared.Answer.TheVariants.{Accepted}
+use Rattle.answer.specs.Answers.{Accepted}
 use Rattle.word.specs.Word.{IsWord}
 use Rattle.word.proofs.Tests.{from_true}
 use Rattle.form.specs.Form.{decode_of, well_formed}

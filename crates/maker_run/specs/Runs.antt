@@ -2,9 +2,9 @@
 -- and c below 32; the profiles are M-111's, and every recipe is flat. `Permitted`, `LegalRun`, `Spare` and
 -- `JudgeAccepts` are demand 3's words (run); `answer_for`, `exec_left` and `ext_left` are what the tabler promises for
 -- two buffers: its answer, and the very bytes that it leaves.
--- Declared in src/: Answer (answer); Recipe (label).
+-- Declared in src/: Recipe (label).
 use Rattle.std.specs.Prelude.{◌≡◌, true, List, ℕ, suc, ◌+◌, ◌*◌, ◌^◌, ◌≤◌, min, T, length}
-use Rattle.answer.specs.declared.Answer.TheVariants.{Accepted}
+use Rattle.answer.specs.Answers.{Accepted}
 use Rattle.machine.specs.Machine.{State}
 use Rattle.machine.specs.Step.{goes, step}
 use Rattle.rules.specs.Sizes.{exec_fits, ext_fits}

@@ -1,10 +1,9 @@
 -- Document 01, "Draws, recipe, label" and "Verdicts" SIZE parts 0 to 2: the maker's answer, and both buffers at return.
--- Declared in src/: Answer (answer); Recipe (label).
+-- Declared in src/: Recipe (label).
 use Rattle.std.specs.Prelude.{Bool, cond, ◌&&◌, List, ℕ, ◌+◌, ◌*◌, ◌^◌, length, get_or, eqb}
 use Rattle.word.specs.Bytes.{bytes_of, concatenated}
 use Rattle.form.specs.Instruction.{instruction_words}
-use Rattle.answer.specs.declared.Answer.{Answer}
-use Rattle.answer.specs.declared.Answer.TheVariants.{Accepted, Size}
+use Rattle.answer.specs.Answers.{Answer, Accepted, Size}
 use Rattle.label.specs.Label.{ranged}
 use Rattle.label.specs.declared.Recipe.{Recipe}
 use Rattle.maker_draws.specs.Drawn.{Draws, draws_of}

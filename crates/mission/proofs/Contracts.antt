@@ -7,7 +7,8 @@ use contract.Lifetimes.{Lfts}
 use borrow.Fn.Kinds.{Dens, res_t, ended_of}
 use denote.Triple.Clauses.{AtExit}
 use Rattle.reply.specs.Reply.{answer_bytes}
-use Rattle.label.specs.Reading.{Reads}
+use Rattle.label.specs.Reading.{reading_of, Reads}
+use Rattle.label.specs.Writing.{written_by}
 use Rattle.rules.specs.Sizes.{Parts}
 use Rattle.judge.proofs.judge.Kinds as judge
 use Rattle.judge.proofs.judge.Reads as judge-reads
@@ -58,14 +59,14 @@ maker_promises κs a z e learnt = learnt
 -- label::read_label(text)
 pub reader_promises : (κs : Lfts 1) (a : Dens κs reader.ps) (z : (res_t reader.r κs).Denot) (e : AtExit (ended_of 1 reader.ps reader.r) κs)
     → reader-reads.Learnt κs a z e
-    → Reads a.0.now z
+    → Reads a.0.now (reading_of z)
 reader_promises κs a z e learnt = learnt
 
 -- label::write_label(recipe, buffer)
 pub writer_promises : (κs : Lfts 1) (a : Dens κs writer.ps) (z : (res_t writer.r κs).Denot) (e : AtExit (ended_of 1 writer.ps writer.r) κs)
     → writer-reads.Learnt κs a z e
-    → WriterPromise a.0 a.1.0.now (z, e.1.0.now)
-writer_promises κs a z e learnt = learnt
+    → WriterPromise a.0 a.1.0.now (written_by z, e.1.0.now)
+writer_promises κs a z e learnt = ((λ i. record { answer = learnt.0 i; length = learnt.1.0 i }), learnt.1.1)
 
 -- uisnabar_judge(program, memory, pc, fp, exec, ext, answer)
 abbrev call_parts : (κs : Lfts 5) → Dens κs judge-call.ps → Parts

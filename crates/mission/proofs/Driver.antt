@@ -9,7 +9,7 @@ use borrow.Author.Tests.{eq-eqb}
 use Rattle.word.proofs.FourBytes.{read_bytes}
 use Rattle.rows.specs.Rows.{bytes_of_words, put_row}
 use Rattle.answer.specs.Verdicts.{numbers_of}
-use Rattle.answer.specs.declared.Answer.{Answer}
+use Rattle.answer.specs.Answers.{Answer}
 use Rattle.rules.specs.Sizes.{Parts}
 use Rattle.judge_spec.specs.Judged.{judge_of}
 use Rattle.judge_spec.proofs.Justified.{justified}

@@ -11,14 +11,11 @@ use lib.ListN.{length}
 use borrow.Author.Tests.{ne_eqb}
 use Rattle.word.proofs.Tests.{cases}
 use Rattle.answer.specs.Verdicts.{numbers_of, accepted}
-use Rattle.answer.specs.declared.Answer.{Answer}
-use Rattle.answer.specs.declared.Answer.TheVariants.{Accepted, Size}
+use Rattle.answer.specs.Answers.{Answer, Accepted, Size}
 use Rattle.label.specs.Label.{ranged, no_recipe, label_of}
-use Rattle.label.specs.Reading.{Reads}
-use Rattle.label.specs.Writing.{written, buffered}
+use Rattle.label.specs.Reading.{Reading, Reads}
+use Rattle.label.specs.Writing.{Written, written, buffered}
 use Rattle.label.specs.declared.Recipe.{Recipe}
-use Rattle.label.specs.declared.Reading.{Reading}
-use Rattle.label.specs.declared.Written.{Written}
 use Rattle.maker_spec.specs.Bytes.{make_of, sizes_fit, program_after, memory_after}
 use Rattle.rules.specs.Sizes.{Parts}
 use Rattle.judge_spec.specs.Judged.{judge_of}

@@ -11,12 +11,10 @@ use borrow.Author.Tests.{eq-eqb}
 use Rattle.word.proofs.FourBytes.{read_bytes}
 use Rattle.rows.specs.Rows.{bytes_of_words, put_row}
 use Rattle.answer.specs.Verdicts.{numbers_of}
-use Rattle.answer.specs.declared.Answer.{Answer}
-use Rattle.answer.specs.declared.Answer.TheVariants.{Accepted}
+use Rattle.answer.specs.Answers.{Answer, Accepted}
 use Rattle.label.specs.Label.{InRange, label_of}
-use Rattle.label.specs.Reading.{Valid, Reads}
+use Rattle.label.specs.Reading.{Reading, Valid, Reads}
 use Rattle.label.specs.declared.Recipe.{Recipe}
-use Rattle.label.specs.declared.Reading.{Reading}
 use Rattle.label.proofs.Label.{reads_label}
 use Rattle.label.proofs.Length.{place_most}
 use Rattle.label.proofs.Range.{version_high, m_high, n_high}

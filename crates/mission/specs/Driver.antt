@@ -1,17 +1,16 @@
 -- The mission's second demand at the C boundary; document 01, "Draws, recipe, label", its last paragraph: what a driver
 -- reads after a call of `uisnabar_judge` or `uisnabar_label` whose answer has 24 bytes and whose recipe has 20.
--- Declared in src/: Numbers, Answer (answer); Recipe, Reading (label).
+-- Declared in src/: Numbers (answer); Recipe (label).
 use Rattle.std.specs.Prelude.{◌≡◌, ◌↔◌, List, ℕ, ◌+◌, ◌*◌, ◌^◌}
 use Rattle.word.specs.Bytes.{word_at}
 use Rattle.answer.specs.Verdicts.{numbers_of}
 use Rattle.answer.specs.declared.Numbers.{Numbers}
-use Rattle.answer.specs.declared.Answer.{Answer}
+use Rattle.answer.specs.Answers.{Answer}
 use Rattle.rules.specs.Sizes.{Parts}
 use Rattle.rules.specs.Satisfies.{Satisfies}
 use Rattle.judge_spec.specs.Refusal.{Says}
-use Rattle.label.specs.Reading.{Valid, Reads}
+use Rattle.label.specs.Reading.{Reading, Valid, Reads}
 use Rattle.label.specs.declared.Recipe.{Recipe}
-use Rattle.label.specs.declared.Reading.{Reading}
 
 -- the six numbers in 24 bytes: verdict, part, place, rule, expected, found, each 4 bytes, little-endian
 abbrev pub numbers_in : List ℕ → Numbers

@@ -5,17 +5,16 @@
 -- so it takes whatever is handed in. What is left is here: each promise admits one outcome, six numbers name one
 -- answer, and what each refusal does to the buffers. What a refusal says, and so its one place, is demand 2 for judge
 -- and label, demand 3 for the tabler.
--- Declared in src/: Answer (answer); Recipe, Reading (label).
+-- Declared in src/: Recipe (label).
 use Rattle.std.specs.Prelude.{◌≡◌, ◌⊎◌, List, ℕ, ◌≤◌, length, replicate}
 use Rattle.reply.specs.Reply.{answer_bytes}
 use Rattle.answer.specs.Determined.{Determined}
 use Rattle.answer.specs.Verdicts.{numbers_of}
-use Rattle.answer.specs.declared.Answer.{Answer}
+use Rattle.answer.specs.Answers.{Answer}
 use Rattle.label.specs.Label.{no_recipe}
-use Rattle.label.specs.Reading.{Reads}
+use Rattle.label.specs.Reading.{Reading, Reads}
 use Rattle.label.specs.Writing.{written, buffered}
 use Rattle.label.specs.declared.Recipe.{Recipe}
-use Rattle.label.specs.declared.Reading.{Reading}
 use Rattle.maker_spec.specs.Bytes.{make_of, program_after, memory_after}
 use Rattle.rules.specs.Sizes.{Parts}
 use Rattle.run.specs.Runs.{Input}

@@ -1,14 +1,13 @@
 -- The mission speaks of entries; document 01, "What the contracts owe". Each entry's promise over what is handed in:
 -- what outcomes keep it. An outcome is the answer beside each lent buffer at return. That these are the promises of the
 -- sources is proved too, but for the programs (proofs/Contracts).
--- Declared in src/: Answer (answer); Recipe, Reading, Written (label).
+-- Declared in src/: Recipe (label).
 use Rattle.std.specs.Prelude.{◌≡◌, List, ℕ, ◌≤◌, length}
 use Rattle.answer.specs.Verdicts.{numbers_of}
-use Rattle.answer.specs.declared.Answer.{Answer}
-use Rattle.label.specs.Writing.{written, buffered}
+use Rattle.answer.specs.Answers.{Answer}
+use Rattle.label.specs.Writing.{Written, written, buffered}
 use Rattle.label.specs.declared.Recipe.{Recipe}
-use Rattle.label.specs.declared.Reading.{Reading}
-use Rattle.label.specs.declared.Written.{Written}
+use Rattle.label.specs.Reading.{Reading}
 use Rattle.maker_spec.specs.Bytes.{make_of, program_after, memory_after}
 use Rattle.rules.specs.Sizes.{Parts}
 use Rattle.judge_spec.specs.Judged.{judge_of}

@@ -14,10 +14,8 @@
 -- `answer_for i exec ext`, `exec_left` and `ext_left` are what `tabler::table` promises for two buffers: its answer,
 -- and the very bytes that it leaves in them. `Tells` says for each of its verdicts what document 01's table has.
 -- `reasons` are what a step is asked, in STUCK's order, and `FirstFailing` is the first of a list that fails.
--- Declared in src/: Answer (answer).
 use Rattle.std.specs.Prelude.{◌≡◌, ◌↔◌, List, ℕ, ◌*◌, ◌<◌, length}
-use Rattle.answer.specs.declared.Answer.{Answer}
-use Rattle.answer.specs.declared.Answer.TheVariants.{Accepted}
+use Rattle.answer.specs.Answers.{Answer, Accepted}
 use Rattle.machine.specs.Machine.{Machine, State}
 use Rattle.machine.specs.Step.{goes, stuck, step}
 use Rattle.rules.specs.Satisfies.{All}

@@ -5,18 +5,16 @@
 -- (rules) knows neither machine nor judge; `Says` (judge_spec) says for each verdict what document 01's table has: the
 -- first failure in its order, by part, row and rule. A recipe in range is a version, a seed below 2^64, m and n;
 -- `label_of` is its label byte for byte, and `Reads` what `label::read_label` promises.
--- Declared in src/: Answer (answer); Recipe, Reading (label); Instruction (form); Exec, Ext (rows).
+-- Declared in src/: Recipe (label); Instruction (form); Exec, Ext (rows).
 use Rattle.std.specs.Prelude.{◌≡◌, ◌↔◌, List, [], ◌∷◌, ◌++◌, ℕ, ◌≤◌, length, drop}
 use Rattle.reply.specs.Reply.{answer_bytes}
-use Rattle.answer.specs.declared.Answer.{Answer}
-use Rattle.answer.specs.declared.Answer.TheVariants.{Accepted, Exec, Extension, Label}
+use Rattle.answer.specs.Answers.{Answer, Accepted, Exec, Extension, Label}
 use Rattle.label.specs.Label.{InRange, label_of}
 use Rattle.text_patterns.specs.Place.{Place}
-use Rattle.label.specs.Reading.{Valid, Reads}
+use Rattle.label.specs.Reading.{Reading, Valid, Reads}
 use Rattle.uisnabar.specs.Calls.{recipe_bytes}
 use Rattle.label.specs.Writing.{written, buffered}
 use Rattle.label.specs.declared.Recipe.{Recipe}
-use Rattle.label.specs.declared.Reading.{Reading}
 use Rattle.rules.specs.Sizes.{Parts, given_of, tables_of}
 use Rattle.rules.specs.Given.{Given}
 use Rattle.rules.specs.Execution.{exec_rules}

@@ -8,8 +8,7 @@ use native.Mathlib.Omega.{arith}
 use lib.ListN.{length, take, length-take}
 use lib.Seq.{take_all}
 use Rattle.text_patterns.proofs.Law.{shared_cut}
-use Rattle.label.specs.Reading.{Reads}
-use Rattle.label.specs.declared.Reading.{Reading}
+use Rattle.label.specs.Reading.{Reading, Reads}
 use Rattle.label.proofs.Length.{label_most, valid_most}
 
 module _ (text : List ℕ) where

@@ -11,8 +11,7 @@ use lib.ListN.{length, take, drop, length-append}
 use lib.Seq.{take_at}
 use Rattle.answer.specs.Determined.{Determined}
 use Rattle.label.specs.Label.{ranged}
-use Rattle.label.specs.Reading.{Reads}
-use Rattle.label.specs.declared.Reading.{Reading}
+use Rattle.label.specs.Reading.{Reading, Reads}
 use Rattle.label.proofs.Label.{reading_determined}
 use Rattle.lines.proofs.Placing.{Stands, over_front}
 use Rattle.answer.specs.Verdicts.{accepted}

@@ -7,9 +7,8 @@ use Prim.Native.Nat.{ℕ, ◌+◌, ◌*◌, ◌^◌, ◌≤◌}
 use native.Mathlib.Omega.{arith}
 use borrow.Author.Tests.{eq-eqb}
 use lib.Dec.{T, eqb}
-use lib.ListN.{length, take, replicate, length-replicate}
-use lib.Seq.{length-take-le}
-use Rattle.answer.specs.declared.Answer.TheVariants.{Accepted}
+use lib.ListN.{length, replicate, length-replicate}
+use Rattle.answer.specs.Answers.{Accepted}
 use Rattle.label.specs.Label.{ranged}
 use Rattle.label.proofs.Range.{n_high}
 use Rattle.label.specs.declared.Recipe.{Recipe}
@@ -82,24 +81,3 @@ module _ (r : Recipe) (p m e x : List ℕ) (room : Spaces r (length p) (length m
         g ∙ rw (i ∙ first, j ∙ second) (exec_is r room.inside e x room.exec_long room.ext_long),
         k ∙ rw (i ∙ first, j ∙ second) (ext_is r room.inside e x room.exec_long room.ext_long),
       )
-
--- the part of the longest program that a recipe's takes
-module _ (r : Recipe) (space : List ℕ) (inside : ranged r ≡ true) (long : 6000 ≡ length space) where
-  pub program_fits_lem : 48 * (r.n + 1) ≤ length space
-  program_fits_lem = omega (arith, n_high r inside)
-
-  pub program_part : 48 * (r.n + 1) ≡ length (take (48 * (r.n + 1)) space)
-  program_part = sym (length-take-le (48 * (r.n + 1)) space program_fits_lem)
-
-  -- buffers of zeros, or any as long, are room for the parts
-  pub spaces : r.m ≡ 10 → {m e x : ℕ} → 4096 ≡ m → 8192 ≡ e → 30720 ≡ x
-      → Spaces r (length (take (48 * (r.n + 1)) space)) m e x
-  spaces ten m-long e-long x-long =
-      record {
-        inside = inside;
-        ten = ten;
-        program_long = sym program_part;
-        memory_long = sym m-long;
-        exec_long = sym e-long;
-        ext_long = sym x-long;
-      }

@@ -1,9 +1,7 @@
 -- Document 01, "Draws, recipe, label": both programs read the label, as the whole of standard input, and write to
 -- standard output.
--- Declared in src/: Reading (label).
 use Rattle.std.specs.Prelude.{ℕ, List, ◌++◌, ◌≡◌, length, drop}
-use Rattle.label.specs.Reading.{Reads}
-use Rattle.label.specs.declared.Reading.{Reading}
+use Rattle.label.specs.Reading.{Reading, Reads}
 
 -- bytes stand at the front of a buffer, and so many they are; the others stay
 pub record Fills (bytes before after : List ℕ) (size : ℕ) : Type 0 where

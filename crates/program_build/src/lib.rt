@@ -1,8 +1,6 @@
 // A recipe made and tabled, as both programs do: document 01, "Draws, recipe, label".
 #![tactic(auto)]
 
-mod space;
-
 ghost use Rattle.std.specs.Prelude.{◌≡◌, length};
 ghost use Rattle.maker_spec.specs.Bytes.{program_of, memory_of};
 ghost use Rattle.program_build.specs.Inner.{Spaces};
@@ -10,8 +8,16 @@ ghost use Rattle.program_build.specs.Recipes.{exec_tabled, ext_tabled};
 
 use label::Recipe;
 use maker::make;
-pub use space::{exec_space, ext_space, memory_space, program_space};
 use tabler::table;
+
+// How long the parts of a recipe with m 10 are at most: 125 instructions, 1,024 cells, and two tables of 256 rows.
+pub const PROGRAM: usize = 6000;
+
+pub const MEMORY: usize = 4096;
+
+pub const EXEC: usize = 8192;
+
+pub const EXT: usize = 30720;
 
 // From pc 0 and fp 0. Maker and tabler accept every recipe that is handed on, so neither's answer is asked for.
 pub fn build(recipe: Recipe, program: &mut [u8], memory: &mut [u8], exec: &mut [u8], ext: &mut [u8])
@@ -21,6 +27,6 @@ pub fn build(recipe: Recipe, program: &mut [u8], memory: &mut [u8], exec: &mut [
         × (exec.new ≡ exec_tabled recipe)
         × (ext.new ≡ ext_tabled recipe) }
 {
-    make(recipe, program, memory);
-    table(program, memory, 0, 0, exec, ext);
+    let _ = make(recipe, program, memory);
+    let _ = table(program, memory, 0, 0, exec, ext);
 }

@@ -3,23 +3,29 @@
 use mathlib.Core.Path.{◌≡◌, refl, sym, ap, ◌∙◌}
 use mathlib.Core.Bool.{true, false}
 use mathlib.Core.List.{List, [], ◌++◌}
-use Prim.Native.Nat.{ℕ, ◌+◌, ◌*◌, ◌/◌, ◌≤◌, ◌<◌}
+use Prim.Native.Nat.{ℕ, ◌+◌, ◌*◌, ◌/◌, ◌≤◌, ◌<◌, ◌^◌}
 use native.Mathlib.Omega.{arith}
 use lib.ListN.{length, drop}
 use Rattle.answer.specs.Verdicts.{accepted}
-use Rattle.answer.specs.declared.Answer.{Answer}
-use Rattle.answer.specs.declared.Answer.TheVariants.{Accepted, ListShort}
+use Rattle.answer.specs.Answers.{Answer, Accepted, ListShort}
 use Rattle.answer.proofs.Named.{accepted_is}
 use Rattle.rules.specs.Sizes.{Parts, given, tables, given_of, tables_of}
 use Rattle.judge_spec.specs.Judged.{judge_of}
 use Rattle.judge_spec.proofs.Exactly.{accepted_satisfies}
 use Rattle.judge_spec.proofs.Lengths.{whole}
+use Rattle.bus_tuples.specs.Ready.{Listed, Short}
 use Rattle.bus_tuples.proofs.AcceptedRows.{accepted_listed}
 use Rattle.range_spec.specs.Finds.{found_at, bound_at, all_finds, finds_number}
 use Rattle.range_spec.specs.Finder.{finds_number_in, ranges_answer, ranges_found, finds_left}
-use Rattle.range_finds.proofs.All.{bound_small}
+use Rattle.range_finds.proofs.All.{bound_small, finds_length}
 use Rattle.range_finds.proofs.Answers.{judge_refuses, fits, too_short, number_given, finds_given, nothing_given}
-use Rattle.range.specs.Walkable.{Walkable}
+
+-- what acceptance leaves of the program and the execution table for the walks over the rows
+pub record Walkable (program exec : List ℕ) : Type 0 where
+  pub listed : Listed program exec
+  pub short : Short exec
+  pub rows : 256 ≤ length exec / 32
+  pub bounds : (r : ℕ) → r + 2 < length exec / 32 → bound_at (given program []) (tables exec []) r < 2 ^ 32
 
 module _ (q : Parts) where
   -- finds are read from the program and the execution table alone
@@ -80,11 +86,13 @@ module _ (q : Parts) where
             room = omega arith
 
             pub written : (after : List ℕ)
-                → after ≡ all_finds (given q.program []) (tables q.exec []) ++ drop (8 * n) finds
+                → after ≡ all_finds (given q.program []) (tables q.exec []) ++ drop (length (all_finds (given q.program []) (tables q.exec []))) finds
                 → Ended Accepted n after
             written after left =
-                let is = fits q judged (length finds) (omega (arith, same)) in (
+                let is = fits q judged (length finds) (omega (arith, same)) in
+                let long : length (all_finds (given q.program []) (tables q.exec [])) ≡ 8 * n =
+                omega (arith, counted, finds_length (given q.program []) (tables q.exec [])) in (
                   sym is,
                   same ∙ sym (number_given q (length finds) is),
-                  left ∙ rw (same, rows_alone.1) (sym (finds_given q finds is)),
+                  left ∙ rw (long, same, rows_alone.1) (sym (finds_given q finds is)),
                 )

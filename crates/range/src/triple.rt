@@ -5,9 +5,9 @@ ghost use Rattle.form.specs.Form.{well_formed};
 ghost use Rattle.form.specs.Instruction.{instruction_at};
 ghost use Rattle.rows.specs.Rows.{exec_at};
 ghost use Rattle.rules.specs.Sizes.{given, tables};
-ghost use Rattle.bus_tuples.specs.Ready.{Listed};
 ghost use Rattle.range_spec.specs.Finds.{derefs, adds, found_at, bound_at};
 
+use bus_tuples::ListedRows;
 use word::word_inside;
 
 // Where the instruction of row r starts.
@@ -43,28 +43,27 @@ fn adds(program: &[u8], at: usize) -> bool
 }
 
 // Most rows are known by one word not to be a find.
-pub(crate) fn found_at(program: &[u8], exec: &[u8], r: usize) -> bool
-    requires listed { Listed program.now exec.now }
-    requires r_in_bounds { r + 2 < length exec.now / 32 }
-    ensures { result ≡ found_at (given program.now []) (tables exec.now []) r }
+pub(crate) fn found_at(rows: &ListedRows<'_>, r: usize) -> bool
+    requires { r + 2 < length rows.now.exec.now / 32 }
+    ensures { result ≡ found_at (given rows.now.program.now []) (tables rows.now.exec.now []) r }
 {
-    let first = start_of(exec, r);
+    let program = rows.program;
+    let first = start_of(rows.exec, r);
     if word_inside(program, first + 40) != 2 {
         return false;
     }
-    let second = start_of(exec, r + 1);
+    let second = start_of(rows.exec, r + 1);
     let x = word_inside(program, second);
     let j = word_inside(program, second + 8);
-    let last = start_of(exec, r + 2);
+    let last = start_of(rows.exec, r + 2);
     derefs(program, first, x) & adds(program, second) & derefs(program, last, j)
 }
 
 // The ADD's B, plus 1.
-pub(crate) fn bound_at(program: &[u8], exec: &[u8], r: usize) -> u32
-    requires listed { Listed program.now exec.now }
-    requires r_in_bounds { r + 2 < length exec.now / 32 }
-    requires r_bound { bound_at (given program.now []) (tables exec.now []) r < 2 ^ 32 }
-    ensures { result ≡ bound_at (given program.now []) (tables exec.now []) r }
+pub(crate) fn bound_at(rows: &ListedRows<'_>, r: usize) -> u32
+    requires r_in_bounds { r + 2 < length rows.now.exec.now / 32 }
+    requires r_bound { bound_at (given rows.now.program.now []) (tables rows.now.exec.now []) r < 2 ^ 32 }
+    ensures { result ≡ bound_at (given rows.now.program.now []) (tables rows.now.exec.now []) r }
 {
-    word_inside(program, start_of(exec, r + 1) + 4) + 1
+    word_inside(rows.program, start_of(rows.exec, r + 1) + 4) + 1
 }

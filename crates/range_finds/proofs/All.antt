@@ -5,7 +5,7 @@ use Prim.Native.Nat.{ℕ, ◌+◌, ◌*◌, ◌≤◌, ◌<◌, ◌^◌}
 use native.Mathlib.Omega.{arith}
 use lib.ListN.{length}
 use Rattle.form.specs.Instruction.{instruction_at}
-use Rattle.answer.specs.declared.Answer.TheVariants.{Accepted}
+use Rattle.answer.specs.Answers.{Accepted}
 use Rattle.rules.specs.Given.{Given, Tables}
 use Rattle.rules.specs.Sizes.{Parts, given_of, tables_of}
 use Rattle.rules.proofs.Totals.{total_most}

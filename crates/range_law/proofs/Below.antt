@@ -11,7 +11,7 @@ use Rattle.word.proofs.WordLaws.{sum_zero}
 use Rattle.form.specs.declared.Form.{Form}
 use Rattle.form.specs.declared.Operand.{Operand}
 use Rattle.form.specs.declared.Mode.TheVariants.{Cell}
-use Rattle.answer.specs.declared.Answer.TheVariants.{Accepted}
+use Rattle.answer.specs.Answers.{Accepted}
 use Rattle.word.proofs.Tests.{by_order}
 use Rattle.machine.specs.Machine.{Machine, State, value, legal}
 use Rattle.machine.specs.Step.{step, goes}

@@ -16,7 +16,7 @@ use Rattle.form.specs.declared.Mode.{Mode}
 use Rattle.form.specs.declared.Mode.TheVariants.{Immediate, Cell}
 use Rattle.form.specs.declared.Operand.{Operand}
 use Rattle.form.specs.declared.Kind.TheVariants.{Add, Deref}
-use Rattle.form.specs.declared.Decoded.TheVariants.{Well}
+use Rattle.std.specs.Prelude.{Some}
 use Rattle.form.proofs.Forms.{opcode_of, plain_of, formed_of, decodes, form_tests}
 use Rattle.range_spec.specs.RangeCheck.{deref_of, add_of}
 use Rattle.range_spec.specs.Finds.{derefs, adds}
@@ -43,7 +43,7 @@ module _ (i : Instruction) where
       (each (flags_fit i) ((is_add i || is_mul i || is_deref i || is_jump i || (opcode i 0 0 0 && is_call (read_data i.«data»))) ∷ []) (form_tests i ∙ w)).0
 
   -- a DEREF of cell x with β 0
-  pub derefs_form : (x : ℕ) → well_formed i ≡ true → derefs x i ≡ true → (c : Operand) × (decode_of i ≡ Well (deref_of x c))
+  pub derefs_form : (x : ℕ) → well_formed i ≡ true → derefs x i ≡ true → (c : Operand) × (decode_of i ≡ Some (deref_of x c))
   derefs_form x w t =
       let (o, (p, (fa, (fb, (a, b))))) =
       each (opcode i 0 0 2) (plain i ∷ eqb i.fa 0 ∷ eqb i.fb 1 ∷ eqb i.a x ∷ eqb i.b 0 ∷ []) t in
@@ -55,7 +55,7 @@ module _ (i : Instruction) where
             ∙ rw (a-flag, b-flag, plain-words.fpab_is, eqb-true i.a x a, eqb-true i.b 0 b),
       )
 
-  pub form_derefs : (x : ℕ) (c : Operand) → decode_of i ≡ Well (deref_of x c) → derefs x i ≡ true
+  pub form_derefs : (x : ℕ) (c : Operand) → decode_of i ≡ Some (deref_of x c) → derefs x i ≡ true
   form_derefs x c e =
       let formed = formed_of i (deref_of x c) e in
       let (o, p, fa, fb) = formed.words in
@@ -64,7 +64,7 @@ module _ (i : Instruction) where
       rw (o.mul_is, o.jump_is, o.aux_is, p.fpab_is, p.data_is, fa, fb, eq-eqb i.a x (sym a), ← b)
 
   -- an ADD of two cells to an immediate
-  pub adds_form : well_formed i ≡ true → adds i ≡ true → decode_of i ≡ Well (add_of i.a i.c i.b)
+  pub adds_form : well_formed i ≡ true → adds i ≡ true → decode_of i ≡ Some (add_of i.a i.c i.b)
   adds_form w t =
       let (o, (p, (fa, (fb, (fc, fpc))))) =
       each (opcode i 0 0 1) (plain i ∷ eqb i.fa 0 ∷ eqb i.fb 1 ∷ eqb i.fc 0 ∷ eqb i.fpc 0 ∷ []) t in
@@ -72,7 +72,7 @@ module _ (i : Instruction) where
       decodes i Add (fits w) (opcode_of i 0 0 1 o, plain-words)
       ∙ rw (eqb-true i.fa 0 fa, eqb-true i.fb 1 fb, eqb-true i.fc 0 fc, eqb-true i.fpc 0 fpc, plain-words.fpab_is)
 
-  pub form_adds : (x j sum : ℕ) → decode_of i ≡ Well (add_of x j sum) → (adds i ≡ true) × (i.a ≡ x) × (i.c ≡ j) × (i.b ≡ sum)
+  pub form_adds : (x j sum : ℕ) → decode_of i ≡ Some (add_of x j sum) → (adds i ≡ true) × (i.a ≡ x) × (i.c ≡ j) × (i.b ≡ sum)
   form_adds x j sum e =
       let formed = formed_of i (add_of x j sum) e in
       let (o, p) = formed.words in

@@ -7,8 +7,8 @@ use Prim.Native.Nat.{ℕ, ◌+◌, ◌-◌, ◌<◌}
 use native.Mathlib.Omega.{arith}
 use Rattle.word.proofs.Tests.{each}
 use Rattle.form.specs.declared.Instruction.{Instruction}
-use Rattle.form.specs.declared.Decoded.TheVariants.{Well}
-use Rattle.answer.specs.declared.Answer.TheVariants.{Accepted}
+use Rattle.std.specs.Prelude.{Some}
+use Rattle.answer.specs.Answers.{Accepted}
 use Rattle.rules.specs.Bus.{instruction_of}
 use Rattle.rules.specs.Sizes.{Parts, given_of, tables_of}
 use Rattle.judge_spec.specs.Judged.{judge_of}
@@ -37,7 +37,7 @@ module _ (q : Parts) (e : judge_of q ≡ Accepted) where
           inside = h;
           first_c = first_c;
           first = is_first;
-          second = is-second ∙ ap (λ (b : ℕ). Well (add_of (row (r + 1)).a (row (r + 1)).c b)) sum;
+          second = is-second ∙ ap (λ (b : ℕ). Some (add_of (row (r + 1)).a (row (r + 1)).c b)) sum;
           last_c = last_c;
           last = is_last;
           some = omega arith;

@@ -11,8 +11,7 @@ use lib.ListN.{length, get_or, drop, length-append, length-drop}
 use lib.Seq.{get_or-append-add, get_or-drop}
 use Rattle.word.proofs.Tests.{cases, by_order}
 use Rattle.answer.specs.Verdicts.{numbers_of, accepted}
-use Rattle.answer.specs.declared.Answer.{Answer}
-use Rattle.answer.specs.declared.Answer.TheVariants.{Accepted, ListShort}
+use Rattle.answer.specs.Answers.{Answer, Accepted, ListShort}
 use Rattle.answer.proofs.Named.{accepted_is}
 use Rattle.rules.specs.Sizes.{Parts, given_of, tables_of}
 use Rattle.judge_spec.specs.Judged.{judge_of}

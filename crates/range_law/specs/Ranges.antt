@@ -3,11 +3,10 @@
 -- on refusal; bytes after the last find keep what they held. Refusals: the judge's own first; then 19 LIST if the
 -- buffer is too short, place = finds, buffer unchanged."
 -- `ranges_answer`, `ranges_found` and `finds_left` (range_spec) are what `range::find_ranges` promises.
--- Declared in src/: Answer (answer).
 use Rattle.std.specs.Prelude.{ℕ, ◌+◌, ◌-◌, ◌*◌, ◌≤◌, ◌<◌, ◌≡◌, List, ◌⊎◌, length, get_or}
 use Rattle.word.specs.Word.{p, ◌+ₚ◌}
 use Rattle.word.specs.Bytes.{word_at}
-use Rattle.answer.specs.declared.Answer.TheVariants.{Accepted, ListShort}
+use Rattle.answer.specs.Answers.{Accepted, ListShort}
 use Rattle.rules.specs.Sizes.{Parts, given_of, tables_of}
 use Rattle.judge_spec.specs.Judged.{judge_of}
 use Rattle.range_spec.specs.RangeCheck.{RangeCheck}

@@ -1,9 +1,7 @@
 -- Document 02, M-108: what the finder answers, the number it gives, and every byte of the buffer at return.
--- Declared in src/: Answer (answer).
 use Rattle.std.specs.Prelude.{ℕ, ◌*◌, cond, List, ◌++◌, leb, length, drop}
 use Rattle.answer.specs.Verdicts.{accepted}
-use Rattle.answer.specs.declared.Answer.{Answer}
-use Rattle.answer.specs.declared.Answer.TheVariants.{Accepted, ListShort}
+use Rattle.answer.specs.Answers.{Answer, Accepted, ListShort}
 use Rattle.rules.specs.Sizes.{Parts, given_of, tables_of}
 use Rattle.judge_spec.specs.Judged.{judge_of}
 use Rattle.range_spec.specs.Finds.{all_finds, finds_number}

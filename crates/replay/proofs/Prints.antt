@@ -5,14 +5,12 @@ use mathlib.Core.List.{List, ◌++◌}
 use mathlib.Core.Logic.{inl, inr}
 use Prim.Native.Nat.{ℕ}
 use borrow.Author.Tests.{eq-eqb, ne_eqb}
-use Rattle.answer.specs.declared.Answer.{Answer}
-use Rattle.answer.specs.declared.Answer.TheVariants.{Accepted, Size, Label}
+use Rattle.answer.specs.Answers.{Answer, Accepted, Size, Label}
 use Rattle.text_patterns.specs.Place.{Place}
 use Rattle.lines.specs.Line.{decimal_in}
 use Rattle.label.specs.Label.{InRange, label_of}
-use Rattle.label.specs.Reading.{Valid, Reads}
+use Rattle.label.specs.Reading.{Reading, Valid, Reads}
 use Rattle.label.specs.declared.Recipe.{Recipe}
-use Rattle.label.specs.declared.Reading.{Reading}
 use Rattle.label.proofs.Label.{label_reads}
 use Rattle.program_build.specs.Output.{Fills, Outputs}
 use Rattle.program_build.proofs.Recipes.{judged_accepted}

@@ -1,8 +1,8 @@
 -- Document 02, M-107: what the replay program prints, text by text, from its promise. Verdict 0, SIZE part 2 and LABEL
 -- are all that there is.
--- Declared in src/: Answer (answer); Recipe (label).
+-- Declared in src/: Recipe (label).
 use Rattle.std.specs.Prelude.{◌≡◌, List, [], ◌∷◌, ◌++◌, ℕ}
-use Rattle.answer.specs.declared.Answer.TheVariants.{Accepted, Size, Label}
+use Rattle.answer.specs.Answers.{Accepted, Size, Label}
 use Rattle.text_patterns.specs.Place.{Place}
 use Rattle.label.specs.Label.{InRange, label_of}
 use Rattle.label.specs.Reading.{Valid}

@@ -1,12 +1,11 @@
 -- Document 01, "Draws, recipe, label", and document 02, M-104: what the replay program prints for a text.
--- Declared in src/: Numbers, Answer (answer); Reading, Recipe (label).
+-- Declared in src/: Numbers (answer); Recipe (label).
 use Rattle.std.specs.Prelude.{ℕ, cond, List, [], ◌∷◌, ◌++◌, eqb}
 use Rattle.answer.specs.Verdicts.{numbers_of, accepted}
 use Rattle.answer.specs.declared.Numbers.{Numbers}
-use Rattle.answer.specs.declared.Answer.{Answer}
-use Rattle.answer.specs.declared.Answer.TheVariants.{Size}
+use Rattle.answer.specs.Answers.{Answer, Size}
 use Rattle.label.specs.Label.{label_of}
-use Rattle.label.specs.declared.Reading.{Reading}
+use Rattle.label.specs.Reading.{Reading}
 use Rattle.label.specs.declared.Recipe.{Recipe}
 use Rattle.maker_spec.specs.Bytes.{program_of, memory_of}
 use Rattle.judge_spec.specs.Judged.{judge_of}

@@ -9,8 +9,7 @@ use lib.Dec.{eqb}
 use lib.ListN.{length, take, drop, drop_of_length-le}
 use borrow.Author.Tests.{eqb-true}
 use Rattle.word.proofs.Tests.{each}
-use Rattle.answer.specs.declared.Answer.{Answer}
-use Rattle.answer.specs.declared.Answer.TheVariants.{Buffer}
+use Rattle.answer.specs.Answers.{Answer, Buffer}
 use Rattle.long.specs.Long.{long_bytes}
 use Rattle.reply.specs.Reply.{answer_bytes, verdict_of, replied}
 use Rattle.reply.specs.Told.{told_fits, told_returned, told_number, told_answer, told_buffer}

@@ -6,8 +6,7 @@ use Prim.Native.Nat.{ℕ}
 use lib.ListN.{length}
 use borrow.Author.Tests.{ne_eqb}
 use Rattle.rows.proofs.Writing.{row_left}
-use Rattle.answer.specs.declared.Answer.{Answer}
-use Rattle.answer.specs.declared.Answer.TheVariants.{Buffer}
+use Rattle.answer.specs.Answers.{Answer, Buffer}
 use Rattle.reply.specs.Reply.{verdict_of, answer_bytes, answer_words, returned, replied}
 
 module _ (buffer : List ℕ) (other : length buffer ≡ answer_bytes → ⊥) where

@@ -1,12 +1,11 @@
 -- Document 01, "Draws, recipe, label", its last paragraph, and document 02, M-104: the six numbers written as 24 bytes,
 -- little-endian, and the verdict returned.
--- Declared in src/: Numbers, Answer (answer).
+-- Declared in src/: Numbers (answer).
 use Rattle.std.specs.Prelude.{ℕ, cond, List, [], ◌∷◌, eqb, length}
 use Rattle.rows.specs.Rows.{put_row}
 use Rattle.answer.specs.Verdicts.{numbers_of}
 use Rattle.answer.specs.declared.Numbers.{Numbers}
-use Rattle.answer.specs.declared.Answer.{Answer}
-use Rattle.answer.specs.declared.Answer.TheVariants.{Buffer}
+use Rattle.answer.specs.Answers.{Answer, Buffer}
 
 abbrev pub verdict_of : Answer → ℕ
 verdict_of a = (numbers_of a).verdict

@@ -1,11 +1,9 @@
 -- Document 02's C calls that give a number of 64 bits beside the answer: what they return, and what they leave in the
 -- number's 8 bytes, in the answer's 24 and in a third buffer. ANSWER comes first, for each buffer of fixed length, and
 -- writes nothing.
--- Declared in src/: Answer (answer).
 use Rattle.std.specs.Prelude.{ℕ, Bool, cond, ◌&&◌, List, eqb, length}
 use Rattle.rows.specs.Rows.{put_row}
-use Rattle.answer.specs.declared.Answer.{Answer}
-use Rattle.answer.specs.declared.Answer.TheVariants.{Buffer}
+use Rattle.answer.specs.Answers.{Answer, Buffer}
 use Rattle.long.specs.Long.{long_bytes}
 use Rattle.reply.specs.Reply.{answer_bytes, verdict_of, answer_words}
 

@@ -6,24 +6,21 @@ mod told;
 
 ghost use Rattle.std.specs.Prelude.{◌≡◌, length};
 ghost use Rattle.rows.specs.Rows.{put_row};
-ghost use Rattle.answer.specs.declared.Answer.TheVariants.{Buffer};
+ghost use Rattle.answer.specs.Answers.{Buffer};
 ghost use Rattle.reply.specs.Reply.{verdict_of, answer_bytes, in_order, returned, replied};
 
-use answer::{Answer, Numbers, six_numbers};
-pub use told::{tell, told_fits};
-use word::put_word;
+use answer::{Answer, Numbers, Refusal, six_numbers};
+use rows::put_words;
+pub use told::{tell, tell_number, told_fits};
 
 // Six numbers into 24 bytes.
 fn put_numbers(buffer: &mut [u8], n: Numbers)
-    requires { length buffer.old ≡ answer_bytes }
     ensures { buffer.new ≡ put_row buffer.old answer_bytes (in_order n) }
 {
-    put_word(buffer, 0, n.verdict);
-    put_word(buffer, 4, n.part);
-    put_word(buffer, 8, n.place);
-    put_word(buffer, 12, n.rule);
-    put_word(buffer, 16, n.expected);
-    put_word(buffer, 20, n.found);
+    put_words(
+        buffer,
+        &[n.verdict, n.part, n.place, n.rule, n.expected, n.found],
+    );
 }
 
 // The verdict, or ANSWER's where the buffer is not 24 bytes; nothing is written then.
@@ -42,6 +39,6 @@ pub fn reply(buffer: &mut [u8], a: Answer) -> u32
 pub fn misfit() -> u32
     ensures { result ≡ verdict_of Buffer }
 {
-    let other = six_numbers(Answer::Buffer);
+    let other = six_numbers(Err(Refusal::Buffer));
     other.verdict
 }

@@ -12,7 +12,7 @@ use Rattle.word.proofs.FourBytes.{read_bytes, bytes_read}
 use Rattle.word.proofs.Lists.{◌∷≡◌}
 use Rattle.word.specs.Bytes.{word_at, bytes_of}
 use Rattle.rows.proofs.Reading.{exec_made, ext_made, exec_behind, ext_behind}
-use Rattle.rows.specs.Rows.{exec_at, five_at, ext_at, bytes_of_words, exec_words, five_words, ext_words}
+use Rattle.rows.specs.Rows.{exec_at, five_at, ext_at, bytes_of_words, with_words, exec_words, five_words, ext_words}
 use Rattle.rows.specs.declared.Exec.{Exec}
 use Rattle.rows.specs.declared.Ext.{Ext}
 
@@ -40,6 +40,16 @@ elements_drop (suc n) at s h =
 
 five_words_lem : (a : List ℕ) → length a ≡ 5 → five_words a ≡ a
 five_words_lem a e = rw (drop_of_length-le a {i = 5} (omega arith)) at (elements_drop 5 0 a (omega arith))
+
+-- the four elements put one after the other
+pub fives_put : (s vA vB comp res : List ℕ) → length vA ≡ 5 → length vB ≡ 5 → length comp ≡ 5 → length res ≡ 5
+    → with_words (with_words (with_words (with_words s 40 vA) 60 vB) 80 comp) 100 res
+    ≡ with_words (with_words (with_words (with_words s 40 (five_words vA)) 60 (five_words vB)) 80 (five_words comp)) 100 (five_words res)
+fives_put s vA vB comp res a b c r =
+    λ i. with_words (with_words (with_words (with_words s 40 (whole vA a i)) 60 (whole vB b i)) 80 (whole comp c i)) 100 (whole res r i)
+  where
+    whole : (x : List ℕ) → length x ≡ 5 → x ≡ five_words x
+    whole x e = sym (five_words_lem x e)
 
 got : {w : ℕ} → w < 2 ^ 32 → w ≡ word_at (bytes_of w) 0
 got {w} f = sym (read_bytes w f)

@@ -2,14 +2,14 @@
 -- Assumes nothing.
 use mathlib.Core.Path.{◌≡◌, refl, sym, ap, ◌∙◌}
 use mathlib.Core.List.{List, [], ◌∷◌, ◌++◌, append_assoc, append-nil}
-use Prim.Native.Nat.{ℕ, ◌+◌, ◌*◌, ◌≤◌}
+use Prim.Native.Nat.{ℕ, zero, suc, ◌+◌, ◌*◌, ◌≤◌, ◌<◌}
 use native.Mathlib.Nat.{add-zero}
 use native.Mathlib.Omega.{arith}
-use lib.ListN.{length, take, drop, length-append, length-drop, take-append-drop, drop_of_length-le}
+use lib.ListN.{length, get_or, take, drop, length-append, length-drop, take-append-drop, drop_of_length-le}
 use lib.Seq.{take_at, drop-append-add, drop-drop, length-take-le}
 use borrow.Author.Tests.{le-leb, eq-eqb, ne_eqb}
 use Rattle.word.specs.Bytes.{bytes_of, with_word}
-use Rattle.rows.specs.Rows.{bytes_of_words, put_row}
+use Rattle.rows.specs.Rows.{bytes_of_words, with_words, put_row}
 
 -- four bytes for each word
 pub length_bytes : (ws : List ℕ) → length (bytes_of_words ws) ≡ 4 * length ws
@@ -17,10 +17,15 @@ unfolding bytes_of_words
 length_bytes [] = refl
 length_bytes (w ∷ ws) = omega (arith, length_bytes ws)
 
--- the buffer after words are put one by one
-abbrev pub with_words : List ℕ → ℕ → List ℕ → List ℕ
-with_words s at [] = s
-with_words s at (w ∷ ws) = with_words (with_word s at w) (at + 4) ws
+-- one word more
+pub put_next : (ws s : List ℕ) (at k : ℕ) → k < length ws
+    → with_word (with_words s at (take k ws)) (at + 4 * k) (get_or ws k 0) ≡ with_words s at (take (k + 1) ws)
+put_next [] s at k h = absurd (omega arith)
+put_next (w ∷ ws) s at zero h = let none : at + 4 * 0 ≡ at = omega arith in rw none
+put_next (w ∷ ws) s at (suc k) h =
+    let e : at + 4 * suc k ≡ at + 4 + 4 * k = omega arith in
+    let next : suc k + 1 ≡ suc (k + 1) = omega arith in
+    rw (e, next) (put_next ws (with_word s at w) (at + 4) k (omega arith))
 
 pub words_put : (ws s : List ℕ) (at : ℕ) → at + 4 * length ws ≤ length s
     → with_words s at ws ≡ take at s ++ (bytes_of_words ws ++ drop (at + 4 * length ws) s)

@@ -1,7 +1,7 @@
 -- Document 01, "Layouts", parts 3 and 4; draft 0.6.0, 3.3.1 and 3.5.1: the words of a row, in order.
 -- Declared in src/: Exec, Ext (here).
 use Rattle.std.specs.Prelude.{cond, ℕ, ◌+◌, List, [], ◌∷◌, ◌++◌, length, get_or, eqb}
-use Rattle.word.specs.Bytes.{word_at, bytes_of}
+use Rattle.word.specs.Bytes.{word_at, bytes_of, with_word}
 use Rattle.rows.specs.declared.Exec.{Exec}
 use Rattle.rows.specs.declared.Ext.{Ext}
 
@@ -47,6 +47,11 @@ ext_at s at =
 unfoldable pub bytes_of_words : List ℕ → List ℕ
 bytes_of_words [] = []
 bytes_of_words (x ∷ xs) = bytes_of x ++ bytes_of_words xs
+
+-- the buffer after words are put one by one, from a byte on
+abbrev pub with_words : List ℕ → ℕ → List ℕ → List ℕ
+with_words s at [] = s
+with_words s at (w ∷ ws) = with_words (with_word s at w) (at + 4) ws
 
 -- the words of a row, in order
 abbrev pub exec_words : Exec → List ℕ

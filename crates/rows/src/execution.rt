@@ -3,9 +3,11 @@ ghost use Rattle.std.specs.Prelude.{◌≡◌, ◌+◌, ◌≤◌, length};
 ghost use Rattle.rows.specs.Rows.{exec_at, exec_words, put_row};
 
 use crate::Exec;
-use word::{put_word, word_inside};
+use crate::words::put_words;
+use word::word_inside;
 
 // A row whose 32 bytes are there: it is read with no test.
+// stays: one line a column, in document 01's order; an array of the words read first would name each of them twice
 pub fn exec_inside(s: &[u8], at: usize) -> Exec
     requires { at + 32 ≤ length s.now }
     ensures { result ≡ exec_at s.now at }
@@ -26,15 +28,10 @@ pub fn exec_inside(s: &[u8], at: usize) -> Exec
 pub fn put_exec(s: &mut [u8], x: Exec)
     ensures { s.new ≡ put_row s.old 32 (exec_words x) }
 {
-    if s.len() != 32 {
-        return;
-    }
-    put_word(s, 0, x.pc);
-    put_word(s, 4, x.fp);
-    put_word(s, 8, x.addrA);
-    put_word(s, 12, x.addrB);
-    put_word(s, 16, x.addrC);
-    put_word(s, 20, x.valueA);
-    put_word(s, 24, x.valueB);
-    put_word(s, 28, x.valueC);
+    put_words(
+        s,
+        &[
+            x.pc, x.fp, x.addrA, x.addrB, x.addrC, x.valueA, x.valueB, x.valueC,
+        ],
+    );
 }

@@ -1,11 +1,12 @@
 // Extension rows.
 ghost use Rattle.std.specs.Prelude.{◌≡◌, ◌+◌, ◌≤◌, ◌<◌, ◌^◌, length, get_or};
-ghost use Rattle.word.specs.Bytes.{with_word};
 ghost use Rattle.rows.specs.Rows.{five_at, ext_at, ext_words, put_row};
 
 use crate::Ext;
-use word::{put_word, word_inside};
+use crate::words::put_from;
+use word::word_inside;
 
+// stays: five reads side by side; a loop that fills an array would be no shorter, and writes it twice
 fn five_inside(s: &[u8], at: usize) -> [u32; 5]
     requires { at + 20 ≤ length s.now }
     ensures { result ≡ five_at s.now at }
@@ -44,18 +45,6 @@ pub fn ext_inside(s: &[u8], at: usize) -> Ext
     }
 }
 
-// Five words from a byte on.
-fn put_five(s: &mut [u8], at: usize, a: [u32; 5])
-    requires { at + 16 < 2 ^ 64 }
-    ensures { s.new ≡ with_word (with_word (with_word (with_word (with_word s.old at (get_or a 0 0)) (at + 4) (get_or a 1 0)) (at + 8) (get_or a 2 0)) (at + 12) (get_or a 3 0)) (at + 16) (get_or a 4 0) }
-{
-    put_word(s, at, a[0]);
-    put_word(s, at + 4, a[1]);
-    put_word(s, at + 8, a[2]);
-    put_word(s, at + 12, a[3]);
-    put_word(s, at + 16, a[4]);
-}
-
 // The row's 120 bytes; a buffer of another length is left as it is.
 pub fn put_ext(s: &mut [u8], x: Ext)
     ensures { s.new ≡ put_row s.old 120 (ext_words x) }
@@ -63,14 +52,15 @@ pub fn put_ext(s: &mut [u8], x: Ext)
     if s.len() != 120 {
         return;
     }
-    let vA = x.vA;
-    let vB = x.vB;
-    let comp = x.comp;
-    let res = x.res;
-    put_five(s, 0, [x.start, x.add, x.mul, x.peq, x.len]);
-    put_five(s, 20, [x.idxA, x.idxB, x.idxR, x.be, x.base]);
-    put_five(s, 40, vA);
-    put_five(s, 60, vB);
-    put_five(s, 80, comp);
-    put_five(s, 100, res);
+    put_from(
+        s,
+        0,
+        &[
+            x.start, x.add, x.mul, x.peq, x.len, x.idxA, x.idxB, x.idxR, x.be, x.base,
+        ],
+    );
+    put_from(s, 40, &x.vA);
+    put_from(s, 60, &x.vB);
+    put_from(s, 80, &x.comp);
+    put_from(s, 100, &x.res);
 }

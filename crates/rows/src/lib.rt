@@ -3,9 +3,11 @@
 
 mod execution;
 mod extension;
+mod words;
 
 pub use execution::{exec_inside, put_exec};
 pub use extension::{ext_inside, put_ext};
+pub use words::put_words;
 
 // A row of the execution table: 8 words in this order.
 #[derive(Clone, Copy)]

@@ -7,28 +7,9 @@ use Prim.Native.Nat.{ℕ, ◌-◌, ◌*◌, ◌≤◌}
 use native.Mathlib.Omega.{arith}
 use lib.ListN.{length, replicate}
 use Rattle.answer.specs.Verdicts.{numbers_of}
-use Rattle.answer.specs.declared.Answer.{Answer}
-use Rattle.answer.specs.declared.Answer.TheVariants.{
-  Accepted,
-  Size,
-  Word,
-  Instruction,
-  Start,
-  Exec,
-  Extension,
-  Bus,
-  Label,
-  Stuck,
-  Room,
-  Open,
-  Buffer,
-  Grid,
-  Edition,
-  Listing,
-  Short,
-  Host,
-  ListShort,
-}
+use Rattle.std.specs.Prelude.{Ok, Err}
+use Rattle.answer.specs.declared.Refusal.TheVariants as refusal
+use Rattle.answer.specs.Answers.{Answer, Accepted, Size, Word, Instruction, Start, Exec, Extension, Bus, Label, Stuck, Room, Open, Buffer, Grid, Edition, Listing, Short, Host, ListShort}
 use Rattle.machine.specs.Machine.{State}
 use Rattle.tables.specs.Rows.{state_at}
 use Rattle.tabler_spec.specs.Tabled.{held_after}
@@ -105,47 +86,47 @@ module _ (i : Input) (exec ext : List ℕ) where
 
   -- verdicts 1 to 4 change no buffer
   kept : (a : Answer) (old written : List ℕ) → 1 ≤ (numbers_of a).verdict → (numbers_of a).verdict ≤ 4 → held_after a old written ≡ old
-  kept Accepted old written h l = absurd (omega arith)
-  kept (Size part place) old written h l = refl
-  kept (Word part place) old written h l = refl
-  kept (Instruction place) old written h l = refl
-  kept Start old written h l = refl
-  kept (Exec row rule expected found) old written h l = refl
-  kept (Extension row rule expected found) old written h l = refl
-  kept (Bus part row) old written h l = refl
-  kept (Label place) old written h l = refl
-  kept (Stuck row rule) old written h l = absurd (omega arith)
-  kept (Room row) old written h l = absurd (omega arith)
-  kept (Open row) old written h l = absurd (omega arith)
-  kept Buffer old written h l = refl
-  kept Grid old written h l = refl
-  kept (Edition place) old written h l = refl
-  kept (Listing place) old written h l = refl
-  kept (Short place) old written h l = refl
-  kept Host old written h l = refl
-  kept (ListShort place) old written h l = refl
+  kept (Ok o) old written h l = absurd (omega arith)
+  kept (Err (refusal.Size part place)) old written h l = refl
+  kept (Err (refusal.Word part place)) old written h l = refl
+  kept (Err (refusal.Instruction place)) old written h l = refl
+  kept (Err refusal.Start) old written h l = refl
+  kept (Err (refusal.Exec row rule expected found)) old written h l = refl
+  kept (Err (refusal.Extension row rule expected found)) old written h l = refl
+  kept (Err (refusal.Bus part row)) old written h l = refl
+  kept (Err (refusal.Label place)) old written h l = refl
+  kept (Err (refusal.Stuck row rule)) old written h l = absurd (omega arith)
+  kept (Err (refusal.Room row)) old written h l = absurd (omega arith)
+  kept (Err (refusal.Open row)) old written h l = absurd (omega arith)
+  kept (Err refusal.Buffer) old written h l = refl
+  kept (Err refusal.Grid) old written h l = refl
+  kept (Err (refusal.Edition place)) old written h l = refl
+  kept (Err (refusal.Listing place)) old written h l = refl
+  kept (Err (refusal.Short place)) old written h l = refl
+  kept (Err refusal.Host) old written h l = refl
+  kept (Err (refusal.ListShort place)) old written h l = refl
 
   -- 9 to 11 leave zeros
   zeroed : (a : Answer) (old written : List ℕ) → 9 ≤ (numbers_of a).verdict → (numbers_of a).verdict ≤ 11 → held_after a old written ≡ replicate (length old) 0
-  zeroed Accepted old written h l = absurd (omega arith)
-  zeroed (Size part place) old written h l = absurd (omega arith)
-  zeroed (Word part place) old written h l = absurd (omega arith)
-  zeroed (Instruction place) old written h l = absurd (omega arith)
-  zeroed Start old written h l = absurd (omega arith)
-  zeroed (Exec row rule expected found) old written h l = absurd (omega arith)
-  zeroed (Extension row rule expected found) old written h l = absurd (omega arith)
-  zeroed (Bus part row) old written h l = absurd (omega arith)
-  zeroed (Label place) old written h l = absurd (omega arith)
-  zeroed (Stuck row rule) old written h l = refl
-  zeroed (Room row) old written h l = refl
-  zeroed (Open row) old written h l = refl
-  zeroed Buffer old written h l = absurd (omega arith)
-  zeroed Grid old written h l = absurd (omega arith)
-  zeroed (Edition place) old written h l = absurd (omega arith)
-  zeroed (Listing place) old written h l = absurd (omega arith)
-  zeroed (Short place) old written h l = absurd (omega arith)
-  zeroed Host old written h l = absurd (omega arith)
-  zeroed (ListShort place) old written h l = absurd (omega arith)
+  zeroed (Ok o) old written h l = absurd (omega arith)
+  zeroed (Err (refusal.Size part place)) old written h l = absurd (omega arith)
+  zeroed (Err (refusal.Word part place)) old written h l = absurd (omega arith)
+  zeroed (Err (refusal.Instruction place)) old written h l = absurd (omega arith)
+  zeroed (Err refusal.Start) old written h l = absurd (omega arith)
+  zeroed (Err (refusal.Exec row rule expected found)) old written h l = absurd (omega arith)
+  zeroed (Err (refusal.Extension row rule expected found)) old written h l = absurd (omega arith)
+  zeroed (Err (refusal.Bus part row)) old written h l = absurd (omega arith)
+  zeroed (Err (refusal.Label place)) old written h l = absurd (omega arith)
+  zeroed (Err (refusal.Stuck row rule)) old written h l = refl
+  zeroed (Err (refusal.Room row)) old written h l = refl
+  zeroed (Err (refusal.Open row)) old written h l = refl
+  zeroed (Err refusal.Buffer) old written h l = absurd (omega arith)
+  zeroed (Err refusal.Grid) old written h l = absurd (omega arith)
+  zeroed (Err (refusal.Edition place)) old written h l = absurd (omega arith)
+  zeroed (Err (refusal.Listing place)) old written h l = absurd (omega arith)
+  zeroed (Err (refusal.Short place)) old written h l = absurd (omega arith)
+  zeroed (Err refusal.Host) old written h l = absurd (omega arith)
+  zeroed (Err (refusal.ListShort place)) old written h l = absurd (omega arith)
 
   pub refusal_keeps : 1 ≤ (numbers_of (answer_for i exec ext)).verdict → (numbers_of (answer_for i exec ext)).verdict ≤ 4
       → (exec_left i exec ext ≡ exec) × (ext_left i exec ext ≡ ext)

@@ -11,28 +11,9 @@ use lib.ListN.{length}
 use borrow.Author.Tests.{lt-ltb, ltb-true}
 use Rattle.word.specs.Word.{p}
 use Rattle.word.proofs.Tests.{by_test, each}
-use Rattle.answer.specs.declared.Answer.{Answer}
-use Rattle.answer.specs.declared.Answer.TheVariants.{
-  Accepted,
-  Size,
-  Word,
-  Instruction,
-  Start,
-  Exec,
-  Extension,
-  Bus,
-  Label,
-  Stuck,
-  Room,
-  Open,
-  Buffer,
-  Grid,
-  Edition,
-  Listing,
-  Short,
-  Host,
-  ListShort,
-}
+use Rattle.std.specs.Prelude.{Ok, Err}
+use Rattle.answer.specs.declared.Refusal.TheVariants as refusal
+use Rattle.answer.specs.Answers.{Answer, Accepted, Size, Word, Instruction, Start, Exec, Extension, Bus, Label, Stuck, Room, Open, Buffer, Grid, Edition, Listing, Short, Host, ListShort}
 use Rattle.machine.specs.Machine.{State}
 use Rattle.rules.specs.Sizes.{Parts, given, tables_of}
 use Rattle.judge_spec.specs.Refusal.{BadWord, part_fits}
@@ -119,35 +100,35 @@ module _ (i : Input) (exec ext : List ℕ) where
 
   pub tells_only : (a : Answer) → Tells i exec ext a → answer_for i exec ext ≡ a
   unfolding Tells table_of
-  tells_only Accepted x = run_accepted x
-  tells_only (Size n place) x = size_refused q (tabler_words i exec ext) n place x ∙ ap (Size n) (sym x.unnamed)
-  tells_only (Word n k) x = sized x.bad.sizes ∙ word_refused n k x.part x.bad
-  tells_only (Instruction k) x =
+  tells_only (Ok o) x = run_accepted x
+  tells_only (Err (refusal.Size n place)) x = size_refused q (tabler_words i exec ext) n place x ∙ ap (Size n) (sym x.unnamed)
+  tells_only (Err (refusal.Word n k)) x = sized x.bad.sizes ∙ word_refused n k x.part x.bad
+  tells_only (Err (refusal.Instruction k)) x =
       read x.two
       ∙ refusing (instructions_read (given i.program []) (tables_of q)) (given i.program []).count Instruction (tabler_start i exec ext) k
       x.inside x.before x.bad
-  tells_only Start x = formed x.three ∙ start_refused x
-  tells_only (Exec r n expected found) x = absurd x
-  tells_only (Extension r n expected found) x = absurd x
-  tells_only (Bus n r) x = absurd x
-  tells_only (Label place) x = absurd x
-  tells_only (Stuck r reason) x =
+  tells_only (Err refusal.Start) x = formed x.three ∙ start_refused x
+  tells_only (Err (refusal.Exec r n expected found)) x = absurd x
+  tells_only (Err (refusal.Extension r n expected found)) x = absurd x
+  tells_only (Err (refusal.Bus n r)) x = absurd x
+  tells_only (Err (refusal.Label place)) x = absurd x
+  tells_only (Err (refusal.Stuck r reason)) x =
       started x.four
       ∙ ending_stuck (machine i) (start_of i) (rows_in exec) (ext_rows_in ext) (some_room i exec ext x.four) r x.inside x.before x.bad
-  tells_only (Room r) x =
+  tells_only (Err (refusal.Room r)) x =
       started x.four
       ∙ ending_room (machine i) (start_of i) (rows_in exec) (ext_rows_in ext) (some_room i exec ext x.four) r x.inside x.before x.steps x.bad
-  tells_only (Open r) x =
+  tells_only (Err (refusal.Open r)) x =
       started x.four
       ∙ ending_open (machine i) (start_of i) (rows_in exec) (ext_rows_in ext) (some_room i exec ext x.four) x.all x.bad
       ∙ ap Open (sym x.place)
-  tells_only Buffer x = absurd x
-  tells_only Grid x = absurd x
-  tells_only (Edition place) x = absurd x
-  tells_only (Listing place) x = absurd x
-  tells_only (Short place) x = absurd x
-  tells_only Host x = absurd x
-  tells_only (ListShort place) x = absurd x
+  tells_only (Err refusal.Buffer) x = absurd x
+  tells_only (Err refusal.Grid) x = absurd x
+  tells_only (Err (refusal.Edition place)) x = absurd x
+  tells_only (Err (refusal.Listing place)) x = absurd x
+  tells_only (Err (refusal.Short place)) x = absurd x
+  tells_only (Err refusal.Host) x = absurd x
+  tells_only (Err (refusal.ListShort place)) x = absurd x
 
   -- the tabler gives an answer exactly where what it tells is so
   pub tells_exactly : (a : Answer) → (answer_for i exec ext ≡ a) ↔ Tells i exec ext a

@@ -12,8 +12,7 @@ use lib.ListN.{length}
 use borrow.Author.Tests.{lt-ltb}
 use Rattle.word.specs.Word.{p}
 use Rattle.word.proofs.Tests.{both}
-use Rattle.answer.specs.declared.Answer.{Answer}
-use Rattle.answer.specs.declared.Answer.TheVariants.{Start, Instruction}
+use Rattle.answer.specs.Answers.{Answer, Start, Instruction}
 use Rattle.machine.specs.Machine.{State}
 use Rattle.machine.specs.Step.{goes}
 use Rattle.machine.specs.Run.{StayingRun}

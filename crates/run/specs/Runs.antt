@@ -1,10 +1,9 @@
 -- Demand 3's words: a program, a memory and a start that are permitted, the machine they make, a legal run of H steps
 -- that stays and leaves a spare extension row, and tables that are that run's. Document 01, "Layouts", "The machine,
 -- without flags", "The tabler".
--- Declared in src/: Answer (answer).
 use Rattle.std.specs.Prelude.{◌≡◌, ℕ, ◌+◌, ◌-◌, ◌*◌, ◌/◌, ◌<◌, ◌≤◌, List, T, length}
 use Rattle.word.specs.Word.{IsWord}
-use Rattle.answer.specs.declared.Answer.TheVariants.{Accepted}
+use Rattle.answer.specs.Answers.{Accepted}
 use Rattle.form.specs.Form.{well_formed}
 use Rattle.rows.specs.Rows.{exec_at}
 use Rattle.machine.specs.Machine.{Machine, State}

@@ -1,35 +1,16 @@
 -- Demand 3 of the tabler. Document 01, "The tabler" and "Verdicts" 0 to 4 and 9 to 11: what each answer of the tabler
 -- says of the program, the memory, the start and the two buffers. Tests run in number order, so each says that those
 -- before it passed.
--- Declared in src/: Form, Kind (form); Answer (answer).
+-- Declared in src/: Form, Kind (form); Refusal (answer).
 use Rattle.std.specs.Prelude.{◌≡◌, false, ◌&&◌, ◌||◌, List, [], ◌∷◌, ℕ, suc, ◌+◌, ◌-◌, ◌*◌, ◌≤◌, ◌<◌, T, ltb, eqb, length}
 use Rattle.word.specs.Word.{IsWord, ◌+ₚ◌, ◌*ₚ◌}
 use Rattle.form.specs.Form.{well_formed}
 use Rattle.form.specs.declared.Form.{Form}
 use Rattle.form.specs.declared.Kind.{Kind}
 use Rattle.form.specs.declared.Kind.TheVariants.{Add, Mul, Deref, Jump, Extension as ExtensionKind}
-use Rattle.answer.specs.declared.Answer.{Answer}
-use Rattle.answer.specs.declared.Answer.TheVariants.{
-  Accepted,
-  Size,
-  Word,
-  Instruction,
-  Start,
-  Exec,
-  Extension,
-  Bus,
-  Label,
-  Stuck,
-  Room,
-  Open,
-  Buffer,
-  Grid,
-  Edition,
-  Listing,
-  Short,
-  Host,
-  ListShort,
-}
+use Rattle.std.specs.Prelude.{Ok, Err}
+use Rattle.answer.specs.declared.Refusal.TheVariants as refusal
+use Rattle.answer.specs.Answers.{Answer, Accepted, Size, Word, Instruction, Start, Exec, Extension, Bus, Label, Stuck, Room, Open, Buffer, Grid, Edition, Listing, Short, Host, ListShort}
 use Rattle.machine.specs.Machine.{Machine, State, value, legal}
 use Rattle.machine.specs.Extension.{element_at, cells_exist, extension_result, same_element}
 use Rattle.machine.specs.Step.{goes, stuck, step, target, target_legal}
@@ -155,22 +136,22 @@ module _ (i : Input) (exec ext : List ℕ) where
 
   -- what an answer of the tabler says; the verdicts 5 to 8, and 13 and above, are not the tabler's
   unfoldable pub Tells : Answer → Type 0
-  Tells Accepted = AcceptedRun
-  Tells (Size n place) = BadSize all_parts n place
-  Tells (Word n k) = TablerWord n k
-  Tells (Instruction k) = TablerInstruction k
-  Tells Start = TablerStart
-  Tells (Exec r n expected found) = ⊥
-  Tells (Extension r n expected found) = ⊥
-  Tells (Bus n r) = ⊥
-  Tells (Label place) = ⊥
-  Tells (Stuck r reason) = StuckAt r reason
-  Tells (Room r) = RoomAt r
-  Tells (Open r) = OpenAt r
-  Tells Buffer = ⊥
-  Tells Grid = ⊥
-  Tells (Edition place) = ⊥
-  Tells (Listing place) = ⊥
-  Tells (Short place) = ⊥
-  Tells Host = ⊥
-  Tells (ListShort place) = ⊥
+  Tells (Ok x) = AcceptedRun
+  Tells (Err (refusal.Size n place)) = BadSize all_parts n place
+  Tells (Err (refusal.Word n k)) = TablerWord n k
+  Tells (Err (refusal.Instruction k)) = TablerInstruction k
+  Tells (Err refusal.Start) = TablerStart
+  Tells (Err (refusal.Exec r n expected found)) = ⊥
+  Tells (Err (refusal.Extension r n expected found)) = ⊥
+  Tells (Err (refusal.Bus n r)) = ⊥
+  Tells (Err (refusal.Label place)) = ⊥
+  Tells (Err (refusal.Stuck r reason)) = StuckAt r reason
+  Tells (Err (refusal.Room r)) = RoomAt r
+  Tells (Err (refusal.Open r)) = OpenAt r
+  Tells (Err refusal.Buffer) = ⊥
+  Tells (Err refusal.Grid) = ⊥
+  Tells (Err (refusal.Edition place)) = ⊥
+  Tells (Err (refusal.Listing place)) = ⊥
+  Tells (Err (refusal.Short place)) = ⊥
+  Tells (Err refusal.Host) = ⊥
+  Tells (Err (refusal.ListShort place)) = ⊥

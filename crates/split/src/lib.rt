@@ -4,7 +4,7 @@
 ghost use Rattle.std.specs.Prelude.{◌≡◌};
 ghost use Rattle.split_spec.specs.Split.{split_parts_of, public_fits, split_fits, judge_split_of};
 
-use answer::Answer;
+use answer::{Answer, Refusal};
 use inputs::{is_power, memory_fits, program_fits};
 use judge::judge_two;
 
@@ -42,10 +42,10 @@ pub fn judge_split<'a>(
     ensures { result ≡ judge_split_of (split_parts_of program.now public.now rest.now pc fp exec.now ext.now) }
 {
     if !program_fits(program.len()) {
-        return Answer::Size { part: 1, place: 0 };
+        return Err(Refusal::Size { part: 1, place: 0 });
     }
     if !split_fits(public.len(), rest.len()) {
-        return Answer::Size { part: 2, place: 0 };
+        return Err(Refusal::Size { part: 2, place: 0 });
     }
     judge_two(program, public, rest, pc, fp, exec, ext)
 }

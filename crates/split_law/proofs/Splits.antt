@@ -10,8 +10,7 @@ use lib.Dec.{leb}
 use lib.ListN.{length, take, drop, length-append, length-drop, take-append-drop}
 use lib.Pow.{pow_pos, pow-lt}
 use lib.Seq.{length-take-le}
-use Rattle.answer.specs.declared.Answer.{Answer}
-use Rattle.answer.specs.declared.Answer.TheVariants.{Accepted, Size}
+use Rattle.answer.specs.Answers.{Answer, Accepted, Size}
 use Rattle.answer.specs.Verdicts.{accepted}
 use Rattle.word.proofs.Tests.{cases, each}
 use Rattle.rules.specs.Sizes.{Parts, parts_of, program_fits, memory_fits}

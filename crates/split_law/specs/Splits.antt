@@ -2,10 +2,8 @@
 -- part 2 for a bad m' or either length; WORD counts words as if joined."
 -- `judge_split_of` (split_spec) is what `split::judge_split` promises, `judge_of` (judge_spec) what `judge::judge`
 -- does.
--- Declared in src/: Answer (answer).
 use Rattle.std.specs.Prelude.{ℕ, ◌-◌, ◌*◌, ◌^◌, ◌≤◌, ◌<◌, ◌≡◌, ◌↔◌, true, false, length, take, drop}
-use Rattle.answer.specs.declared.Answer.{Answer}
-use Rattle.answer.specs.declared.Answer.TheVariants.{Accepted, Size}
+use Rattle.answer.specs.Answers.{Answer, Accepted, Size}
 use Rattle.rules.specs.Sizes.{Parts, program_fits, memory_fits}
 use Rattle.judge_spec.specs.Judged.{judge_of}
 use Rattle.judge_spec.specs.Refusal.{Says}

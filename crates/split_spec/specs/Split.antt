@@ -1,10 +1,8 @@
 -- Document 02, M-109: "Verifiers hold the public input, the first 2^m' cells, apart from the rest. Let the judge take
 -- the two, with m' from 0 to m - 1. [..] The answer equals the old judge's on the two joined. Refusals: SIZE part 2 for
 -- a bad m' or either length".
--- Declared in src/: Answer (answer).
 use Rattle.std.specs.Prelude.{ℕ, ◌+◌, ◌/◌, ◌%◌, Bool, cond, ◌&&◌, List, ◌++◌, leb, eqb, length}
-use Rattle.answer.specs.declared.Answer.{Answer}
-use Rattle.answer.specs.declared.Answer.TheVariants.{Size}
+use Rattle.answer.specs.Answers.{Answer, Size}
 use Rattle.rules.specs.Sizes.{Parts, parts_of, is_power, program_fits, memory_fits}
 use Rattle.judge_spec.specs.Judged.{judge_of}
 

@@ -1,6 +1,6 @@
 -- A number of draws bit by bit: a bit's own draws, and those that are left.
 -- Assumes nothing.
-use Rattle.std.proofs.Common.{◌≡◌, ℕ, ◌+◌, ◌*◌, ◌/◌, ◌%◌, ◌^◌, ◌<◌, ◌≤◌, List, get_or, sym, ap, ◌∙◌, mul-le-mul_right, one-mul, pow-suc, zero-mul, add-one, arith, pow_mono}
+use Rattle.std.proofs.Common.{◌≡◌, refl, zero, suc, ℕ, ◌+◌, ◌*◌, ◌/◌, ◌%◌, ◌^◌, ◌<◌, ◌≤◌, List, get_or, sym, ap, ◌∙◌, mul-le-mul_right, one-mul, pow-suc, zero-mul, add-one, arith, pow_mono}
 use native.Mathlib.Nat.{div-add-mod}
 use Rattle.word.proofs.Tests.{by_order}
 use Rattle.stream_spec.specs.Stream.{advances}
@@ -42,6 +42,15 @@ within k i some small =
     let more : 2 ^ i ≤ k * 2 ^ i = rw (one-mul (2 ^ i)) at (mul-le-mul_right (2 ^ i) some) in
     absurd (omega (arith, least, more)))
 
--- and where none is, no draw is left
+-- past the 64 bits none is left
+pub none_from : (k i : ℕ) → 64 ≤ i → k * 2 ^ i < 2 ^ 64 → k ≡ 0
+none_from zero i past small = refl
+none_from (suc k) i past small =
+    let least : 2 ^ 64 ≤ 2 ^ i = pow_mono {i = 64} {j = i} past in
+    let some : 1 ≤ suc k = omega arith in
+    let more : 2 ^ i ≤ suc k * 2 ^ i = rw (one-mul (2 ^ i)) at (mul-le-mul_right (2 ^ i) some) in
+    absurd (omega (arith, least, more))
+
+-- and where none is left, no draw is
 pub all_done : (k i s : ℕ) → k ≡ 0 → advances (k * 2 ^ i) s ≡ s
 all_done k i s e = rw (e, zero-mul (2 ^ i)) (advances_none s)

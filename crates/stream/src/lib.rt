@@ -6,16 +6,16 @@ ghost use Rattle.stream_spec.specs.Stream.{advances, after};
 ghost use Rattle.stream_spec.specs.Pairs.{applied};
 ghost use Rattle.stream_spec.specs.Host.{start_of};
 
-use answer::Answer;
+use answer::{Answer, Refusal};
 use draw::{Generator, wrapping_product};
 use stream_pairs::pairs;
-use stream_spec::{Pair, Started};
+use stream_spec::Pair;
 
 // A pair applied to a state.
 fn apply(pair: Pair, s: u64) -> u64
     ensures { result ≡ applied pair s }
 {
-    std::num::wrapping_add_u64(wrapping_product(pair.multiplier, s), pair.increment)
+    wrapping_product(pair.multiplier, s).wrapping_add(pair.increment)
 }
 
 // k·2^from draws: the table's pair of 2^i draws for each bit i of that number.
@@ -26,15 +26,16 @@ fn leap(s: u64, k: u64, from: usize) -> u64
     let table = pairs();
     let mut state = s;
     let mut left = k;
-    let mut i = from;
-    while left > 0 {
+    for i in from..64 {
+        if left == 0 {
+            break;
+        }
         // also where the bit is clear: a choice between two numbers takes less time than a way that is guessed
         let led = apply(table[i], state);
         if left % 2 == 1 {
             state = led;
         }
-        left = left / 2;
-        i += 1;
+        left /= 2;
     }
     state
 }
@@ -48,19 +49,14 @@ pub fn jump(generator: Generator, draws: u64) -> Generator
     }
 }
 
-// Where a host starts: 2^40 draws further on than the host before it.
-pub fn start(generator: Generator, host: u64) -> Started
-    ensures { result ≡ start_of generator host }
+// To where a host starts: 2^40 draws further on than the host before it. A refusal leaves the generator as it came.
+pub fn start(generator: &mut Generator, host: u64) -> Answer
+    ensures value { result ≡ (start_of generator.old host).answer }
+    ensures generator_after { generator.new ≡ (start_of generator.old host).generator }
 {
     if 16777216 <= host {
-        return Started {
-            answer: Answer::Host,
-            generator,
-        };
+        return Err(Refusal::Host);
     }
-    let state = leap(generator.state, host, 40);
-    Started {
-        answer: Answer::Accepted,
-        generator: Generator { state },
-    }
+    generator.state = leap(generator.state, host, 40);
+    Ok(())
 }

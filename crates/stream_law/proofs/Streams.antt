@@ -5,7 +5,7 @@ use Prim.Native.Nat.{ℕ, suc, ◌+◌, ◌*◌, ◌^◌, ◌≤◌, ◌<◌}
 use native.Mathlib.Omega.{arith}
 use lib.ListN.{length, get_or}
 use borrow.Author.Tests.{lt-ltb, le-ltb}
-use Rattle.answer.specs.declared.Answer.TheVariants.{Accepted, Host}
+use Rattle.answer.specs.Answers.{Accepted, Host}
 use Rattle.draw.specs.Draw.{draw_of}
 use Rattle.draw.specs.declared.Generator.{Generator}
 use Rattle.stream_spec.specs.Stream.{advances, after, draw_at}

@@ -3,9 +3,9 @@
 -- Refusals: 18 HOST for k at or above 2^24; the generator is returned as it came."
 -- `after` is what `stream::jump` promises, `start_of` what `stream::start` does, `table` what `stream_pairs::pairs`
 -- does (stream_spec).
--- Declared in src/: Answer (answer); Generator (draw); Pair (stream_spec).
+-- Declared in src/: Generator (draw); Pair (stream_spec).
 use Rattle.std.specs.Prelude.{ℕ, suc, ◌+◌, ◌*◌, ◌%◌, ◌^◌, ◌≤◌, ◌<◌, ◌↔◌, ◌≡◌, length, get_or}
-use Rattle.answer.specs.declared.Answer.TheVariants.{Accepted, Host}
+use Rattle.answer.specs.Answers.{Accepted, Host}
 use Rattle.draw.specs.Draw.{draw_of}
 use Rattle.draw.specs.declared.Generator.{Generator}
 use Rattle.stream_spec.specs.Stream.{after, draw_at}

@@ -1,19 +1,9 @@
 // Streams from one seed: definitions in specs/. Document 02, M-106.
 #![tactic(auto)]
 
-use answer::Answer;
-use draw::Generator;
-
 // What a number of draws does to a state, modulo 2^64: times the multiplier, plus the increment.
 #[derive(Clone, Copy)]
 pub struct Pair {
     pub multiplier: u64,
     pub increment: u64,
-}
-
-// A host's generator, or where the host is refused the one that came.
-#[derive(Drop)]
-pub struct Started {
-    pub answer: Answer,
-    pub generator: Generator,
 }

@@ -1,7 +1,6 @@
 -- Document 01, "Draws, recipe, label": what the table program writes for a text.
--- Declared in src/: Reading (label).
 use Rattle.std.specs.Prelude.{ℕ, cond, List, [], eqb}
-use Rattle.label.specs.declared.Reading.{Reading}
+use Rattle.label.specs.Reading.{Reading}
 use Rattle.answer.specs.Verdicts.{accepted}
 use Rattle.program_build.specs.Recipes.{four_parts}
 

@@ -5,7 +5,7 @@ use mathlib.Core.Path.{◌≡◌, sym, ◌∙◌}
 use Prim.Native.Nat.{ℕ}
 use lib.ListN.{length}
 use Rattle.answer.specs.Determined.{Determined}
-use Rattle.answer.specs.declared.Answer.{Answer}
+use Rattle.answer.specs.Answers.{Answer}
 use Rattle.tabler_spec.specs.Tabled.{table_of, exec_after, ext_after}
 
 pub table_determined : (program memory : List ℕ) (pc fp : ℕ) (exec ext : List ℕ)

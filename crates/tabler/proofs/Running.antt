@@ -13,7 +13,7 @@ use lib.ListN.{length, take}
 use lib.Seq.{take_all}
 use Rattle.word.specs.Bytes.{concatenated}
 use Rattle.word.proofs.Tests.{eqb_same}
-use Rattle.answer.specs.declared.Answer.TheVariants.{Accepted, Stuck, Room, Open}
+use Rattle.answer.specs.Answers.{Accepted, Stuck, Room, Open}
 use Rattle.rows.proofs.Writing.{length_bytes}
 use Rattle.rows.specs.Rows.{exec_words, ext_words}
 use Rattle.machine.specs.Machine.{Machine, State}

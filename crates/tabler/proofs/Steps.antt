@@ -9,7 +9,7 @@ use native.Mathlib.Omega.{arith}
 use lib.Dec.{ltb}
 use lib.ListN.{length}
 use Rattle.word.specs.Bytes.{concatenated}
-use Rattle.answer.specs.declared.Answer.TheVariants.{Stuck as StuckAt, Room}
+use Rattle.answer.specs.Answers.{Stuck as StuckAt, Room}
 use Rattle.form.specs.declared.Form.{Form}
 use Rattle.form.specs.declared.Kind.TheVariants.{Add, Mul, Deref, Jump, Extension}
 use Rattle.form.specs.declared.Kind.{Kind}
@@ -26,48 +26,54 @@ use Rattle.tabler_operands.specs.Looked.{at, looked_by, looked_of, looked_b, ope
 use Rattle.tabler_operands.specs.declared.Looked.{Looked}
 use Rattle.tabler_operands.specs.declared.Operands.{Operands}
 use Rattle.tabler_rows.specs.Placed.{exec_bytes, ext_bytes, placed, row_by}
-use Rattle.tabler_step.specs.Taken.{taken_of, taken_ext, kind_bytes, performed_by, step_by}
-use Rattle.tabler_step.specs.declared.Moved.TheVariants.{Stuck, Full, Goes}
+use Rattle.std.specs.Prelude.{Result, Ok, Err}
+use Rattle.tabler_step.specs.Taken.{moved_to, taken_of, taken_ext, kind_bytes, performed_by, step_by}
+use Rattle.tabler_step.specs.declared.Halt.TheVariants.{Stuck, Full}
+use Rattle.tabler_step.specs.declared.Halt.{Halt}
+use Rattle.tabler_step.specs.declared.Moved.{Moved}
 use Rattle.tabler.proofs.Running.{Ran, is_stuck, no_room, goes_on}
 
 -- what the code's answer says of an outcome that goes on with k rows filled after it: that there is room, or none
-record Went (o : Outcome) (p q k' k room : ℕ) : Type 0 where
-  is : o ≡ goes (at p q)
+record Went (o : Outcome) (moved : Moved) (k room : ℕ) : Type 0 where
+  is : o ≡ goes (at moved.to.pc moved.to.fp)
   fits : k < room
-  rows : k' ≡ k
+  rows : moved.filled ≡ k
 
 record Filled (o : Outcome) (k room : ℕ) : Type 0 where
   to : State
   is : o ≡ goes to
   full : room ≤ k
 
-went : (o : Outcome) (k room : ℕ) {p q k' : ℕ} → Goes p q k' ≡ taken_of o k room → Went o p q k' k room
+-- such an answer
+abbrev Taken : Type 0
+Taken = Result Moved Halt
+
+went : (o : Outcome) (k room : ℕ) {moved : Moved} → ◌≡◌ {A = Taken} (Ok moved) (taken_of o k room) → Went o moved k room
 unfolding taken_of
 went (stuck rule) k room e = let z : ◌≡◌ {A = ℕ} 0 1 = cc in absurd (omega arith)
-went (goes s) k room {p} {q} {k'} e = by (ltb k room) refl e
+went (goes s) k room {moved} e = by (ltb k room) refl e
   where
-    by : (b : Bool) → ltb k room ≡ b → Goes p q k' ≡ cond b (Goes s.pc s.fp k) Full → Went (goes s) p q k' k room
+    by : (b : Bool) → ltb k room ≡ b → ◌≡◌ {A = Taken} (Ok moved) (cond b (Ok (moved_to s k)) (Err Full)) → Went (goes s) moved k room
     by false t e = let z : ◌≡◌ {A = ℕ} 0 1 = cc in absurd (omega arith)
     by true t e =
-        let pcs : s.pc ≡ p = cc in
-        let fps : s.fp ≡ q = cc in
-        record { is = λ i. goes (record { pc = pcs i; fp = fps i }); fits = ltb-true k room t; rows = cc }
+        let same : moved_to s k ≡ moved = cc in
+        record { is = ap (λ (m : Moved). goes (at m.to.pc m.to.fp)) same; fits = ltb-true k room t; rows = ap (λ (m : Moved). m.filled) (sym same) }
 
-filled_up : (o : Outcome) (k room : ℕ) → Full ≡ taken_of o k room → Filled o k room
+filled_up : (o : Outcome) (k room : ℕ) → ◌≡◌ {A = Taken} (Err Full) (taken_of o k room) → Filled o k room
 unfolding taken_of
 filled_up (stuck rule) k room e = let z : ◌≡◌ {A = ℕ} 0 1 = cc in absurd (omega arith)
 filled_up (goes s) k room e = by (ltb k room) refl e
   where
-    by : (b : Bool) → ltb k room ≡ b → Full ≡ cond b (Goes s.pc s.fp k) Full → Filled (goes s) k room
+    by : (b : Bool) → ltb k room ≡ b → ◌≡◌ {A = Taken} (Err Full) (cond b (Ok (moved_to s k)) (Err Full)) → Filled (goes s) k room
     by true t e = let z : ◌≡◌ {A = ℕ} 0 1 = cc in absurd (omega arith)
     by false t e = record { to = s; is = refl; full = ltb-false k room t }
 
-held_up : (o : Outcome) (k room : ℕ) {rule : ℕ} → Stuck rule ≡ taken_of o k room → o ≡ stuck rule
+held_up : (o : Outcome) (k room : ℕ) {rule : ℕ} → ◌≡◌ {A = Taken} (Err (Stuck rule)) (taken_of o k room) → o ≡ stuck rule
 unfolding taken_of
 held_up (stuck rule) k room e = cc
 held_up (goes s) k room {rule} e = by (ltb k room) e
   where
-    by : (b : Bool) → Stuck rule ≡ cond b (Goes s.pc s.fp k) Full → goes s ≡ stuck rule
+    by : (b : Bool) → ◌≡◌ {A = Taken} (Err (Stuck rule)) (cond b (Ok (moved_to s k)) (Err Full)) → goes s ≡ stuck rule
     by true e = let z : ◌≡◌ {A = ℕ} 0 1 = cc in absurd (omega arith)
     by false e = let z : ◌≡◌ {A = ℕ} 0 1 = cc in absurd (omega arith)
 
@@ -133,15 +139,15 @@ module _ {m : Machine} {start : State} {height room : ℕ} {exec ext : List ℕ}
     len : length_of f.kind ≡ length_at m s
     len = ap (λ (f : Form). length_of f.kind) ef
 
-    pub stuck_here : {rule : ℕ} → Stuck rule ≡ taken_of taken (k + length_of f.kind) (length ext / 120) → StuckAt r rule ≡ ending m start height room
+    pub stuck_here : {rule : ℕ} → ◌≡◌ {A = Taken} (Err (Stuck rule)) (taken_of taken (k + length_of f.kind) (length ext / 120)) → StuckAt r rule ≡ ending m start height room
     stuck_here e = is_stuck ran more (sym stepped ∙ held_up _ _ _ e)
 
-    pub full_here : Full ≡ taken_of taken (k + length_of f.kind) (length ext / 120) → Room r ≡ ending m start height room
+    pub full_here : ◌≡◌ {A = Taken} (Err Full) (taken_of taken (k + length_of f.kind) (length ext / 120)) → Room r ≡ ending m start height room
     full_here e = let w = filled_up _ _ _ e in no_room ran more (sym stepped ∙ w.is) (omega (arith, w.full, len, rows))
 
-    module _ {p q k' : ℕ} (moved : Goes p q k' ≡ taken_of taken (k + length_of f.kind) (length ext / 120)) where
-      w : Went taken p q k' (k + length_of f.kind) (length ext / 120)
-      w = went _ _ _ moved
+    module _ {moved : Moved} (came : ◌≡◌ {A = Taken} (Ok moved) (taken_of taken (k + length_of f.kind) (length ext / 120))) where
+      w : Went taken moved (k + length_of f.kind) (length ext / 120)
+      w = went _ _ _ came
 
       shown : row_by s.pc s.fp o ≡ exec_row_of m s
       unfolding exec_row_of
@@ -160,7 +166,7 @@ module _ {m : Machine} {start : State} {height room : ℕ} {exec ext : List ℕ}
       pub turns : 32 * r + 32 ≤ length exec → {exec' ext' : List ℕ}
           → ext' ≡ taken_ext taken k (length_of f.kind) (kind_bytes m.cell f.kind o) ext
           → exec' ≡ placed exec (32 * r) (32 * r + 32) (exec_bytes (row_by s.pc s.fp o))
-          → Ran m start height room exec' ext' (at p q) (r + 1) k' (same_state (at p q) s)
+          → Ran m start height room exec' ext' (at moved.to.pc moved.to.fp) (r + 1) moved.filled (same_state (at moved.to.pc moved.to.fp) s)
       turns exec-room put-ext put-exec =
           rw (w.rows, len)
           (goes_on ran more (sym stepped ∙ w.is) (omega (arith, w.fits, len, rows)) exec-room (omega (arith, w.fits, len))

@@ -1,8 +1,6 @@
 -- Inner: how the tabler's stages end: the answer, and both tables at return.
--- Declared in src/: Answer (answer).
 use Rattle.std.specs.Prelude.{List, ◌≡◌, ℕ, ◌/◌, length}
-use Rattle.answer.specs.declared.Answer.TheVariants.{Accepted}
-use Rattle.answer.specs.declared.Answer.{Answer}
+use Rattle.answer.specs.Answers.{Accepted, Answer}
 use Rattle.tables.specs.Bytes.{exec_table, ext_table}
 use Rattle.tables.specs.Machine.{machine_of}
 use Rattle.tables.specs.Rows.{state_at}

@@ -9,7 +9,7 @@ mod tests;
 ghost use Rattle.std.specs.Prelude.{◌≡◌, length};
 ghost use Rattle.tabler_spec.specs.Tabled.{table_of, exec_after, ext_after};
 
-use answer::Answer;
+use answer::{Answer, Refusal};
 use inputs::bad_part;
 use tests::table_words;
 
@@ -28,7 +28,7 @@ pub fn table(
 {
     let part = bad_part(program.len(), memory.len(), exec.len(), ext.len());
     if part != 0 {
-        return Answer::Size { part, place: 0 };
+        return Err(Refusal::Size { part, place: 0 });
     }
     table_words(program, memory, pc, fp, exec, ext)
 }

@@ -7,8 +7,9 @@ ghost use Rattle.tabler_spec.specs.Tabled.{start_fits};
 ghost use Rattle.tabler.specs.Ends.{run_of, Tabling};
 
 use crate::finish::finish;
-use answer::Answer;
+use answer::{Answer, Refusal};
 use inputs::{first_word, first_word_unless, program_walk};
+use tabler_operands::State;
 use word::P;
 
 // 2 to 4 change no byte.
@@ -26,27 +27,31 @@ pub(crate) fn table_words(
     let walked = program_walk(program);
     let w = first_word_unless(program, walked.words);
     if w < program.len() / 4 {
-        return Answer::Word {
+        return Err(Refusal::Word {
             part: 1,
             place: w as u32,
-        };
+        });
     }
     let v = first_word(memory);
     if v < memory.len() / 4 {
-        return Answer::Word {
+        return Err(Refusal::Word {
             part: 2,
             place: v as u32,
-        };
+        });
     }
     let i = walked.at;
     if i < program.len() / 48 {
-        return Answer::Instruction { place: i as u32 };
+        return Err(Refusal::Instruction { place: i as u32 });
     }
     if P <= pc {
-        return Answer::Start;
+        return Err(Refusal::Start);
     }
     if P <= fp {
-        return Answer::Start;
+        return Err(Refusal::Start);
     }
-    finish(program, memory, pc as u32, fp as u32, exec, ext)
+    let start = State {
+        pc: pc as u32,
+        fp: fp as u32,
+    };
+    finish(program, memory, start, exec, ext)
 }

@@ -5,6 +5,7 @@ ghost use Rattle.std.specs.Prelude.{◌≡◌, ◌+◌, ◌/◌, ◌≤◌, leng
 ghost use Rattle.rules.specs.Sizes.{word_of};
 ghost use Rattle.machine.specs.Extension.{element_at};
 
+use std::array;
 use word::{word_at, word_inside};
 
 // A cell, and 0 past the last: an operand that is not legal is looked at too.
@@ -25,11 +26,5 @@ pub fn element_at(memory: &[u8], k: usize) -> [u32; 5]
     requires { k + 5 ≤ length memory.now / 4 }
     ensures { result ≡ element_at (word_of memory.now) k }
 {
-    [
-        word_inside(memory, 4 * k),
-        word_inside(memory, 4 * (k + 1)),
-        word_inside(memory, 4 * (k + 2)),
-        word_inside(memory, 4 * (k + 3)),
-        word_inside(memory, 4 * (k + 4)),
-    ]
+    array::from_fn(|i| word_inside(memory, 4 * (k + i)))
 }

@@ -35,17 +35,16 @@ pub fn with_element(memory: &[u8], g: Group, i: u32, rest: [u32; 5]) -> Joined
     requires { ElementExists (length memory.now) g i }
     ensures { result ≡ joined_at (word_of memory.now) g i rest }
 {
-    let op = g.op;
     let left = element_at(memory, left_index(g.be, g.a, i) as usize);
     let right = element_at(memory, (g.b as usize) + 5 * (i as usize));
-    let comp = with_term(op, left_of(g.be, left), right, rest);
+    let comp = with_term(g.op, left_of(g.be, left), right, rest);
     Joined { left, right, comp }
 }
 
 pub fn same(x: [u32; 5], y: [u32; 5]) -> bool
     ensures { result ≡ same_element x y }
 {
-    (x[0] == y[0]) & (x[1] == y[1]) & (x[2] == y[2]) & (x[3] == y[3]) & (x[4] == y[4])
+    x == y
 }
 
 // The five cells at C are the sum or product over all elements, from the last back to the first.
@@ -53,13 +52,9 @@ pub fn result_holds(memory: &[u8], g: Group) -> bool
     requires { GroupExists (length memory.now) g }
     ensures { result ≡ result_holds (word_of memory.now) g }
 {
-    let op = g.op;
-    let mut rest = none(op);
-    let mut j = g.n;
-    while 0 < j {
-        j = j - 1;
-        let more = with_element(memory, g, j, rest);
-        rest = more.comp;
+    let mut rest = none(g.op);
+    for j in (0..g.n).rev() {
+        rest = with_element(memory, g, j, rest).comp;
     }
     same(element_at(memory, g.c as usize), rest)
 }

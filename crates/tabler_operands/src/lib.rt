@@ -8,7 +8,15 @@ pub use elements::{cells_exist, left_index, result_holds, same, with_element};
 use form::Op;
 pub use look::look_all;
 
+// A state of the machine.
+#[derive(Clone, Copy, PartialEq, Eq)]
+pub struct State {
+    pub pc: u32,
+    pub fp: u32,
+}
+
 // What a step and its row ask of an operand.
+// stays: `looked_of` gives address, cell and value of an operand that is not legal too, so an Option has no place here.
 #[derive(Clone, Copy)]
 pub struct Looked {
     pub legal: bool,

@@ -12,8 +12,7 @@ use word::add;
 fn look(memory: &[u8], fp: u32, o: Operand) -> Looked
     ensures { result ≡ looked_of (word_of memory.now) (length memory.now / 4) fp o }
 {
-    let mode = o.mode;
-    match mode {
+    match o.mode {
         Mode::Immediate => Looked {
             legal: true,
             addr: 0,
@@ -43,23 +42,18 @@ fn look(memory: &[u8], fp: u32, o: Operand) -> Looked
 fn look_b(memory: &[u8], fp: u32, f: Form, a: u32) -> Looked
     ensures { result ≡ looked_b (word_of memory.now) (length memory.now / 4) fp a f.b f.kind }
 {
-    let kind = f.kind;
-    let b = f.b;
-    let x = look(memory, fp, b);
-    match kind {
-        Kind::Add => x,
-        Kind::Mul => x,
+    let x = look(memory, fp, f.b);
+    match f.kind {
         Kind::Deref => {
-            let k = add(a, b.word);
+            let k = add(a, f.b.word);
             Looked {
                 legal: x.legal & ((k as usize) < memory.len() / 4),
                 addr: k,
                 cell: cell(memory, k as usize),
-                value: x.value,
+                ..x
             }
         }
-        Kind::Jump => x,
-        Kind::Extension { op: _, be: _, n: _ } => x,
+        _ => x,
     }
 }
 
@@ -67,10 +61,8 @@ fn look_b(memory: &[u8], fp: u32, f: Form, a: u32) -> Looked
 pub fn look_all(memory: &[u8], fp: u32, f: Form) -> Operands
     ensures { result ≡ operands_of (word_of memory.now) (length memory.now / 4) fp f }
 {
-    let a = f.a;
-    let c = f.c;
-    let x = look(memory, fp, a);
-    let y = look_b(memory, fp, f, x.value);
-    let z = look(memory, fp, c);
-    Operands { a: x, b: y, c: z }
+    let a = look(memory, fp, f.a);
+    let b = look_b(memory, fp, f, a.value);
+    let c = look(memory, fp, f.c);
+    Operands { a, b, c }
 }

@@ -99,11 +99,6 @@ module _ (row : ℕ → List ℕ) where
       fits : size * (j - 1) + size ≡ size * j
       fits = back j some
 
-      pub back_length : length (placed t (size * (j - 1)) (size * (j - 1) + size) x) ≡ length t
-      back_length =
-          let f = fits in
-          placed_length t x (size * (j - 1)) (size * (j - 1) + size) (omega arith) (omega arith) (omega (arith, put_length t x words (size * (j - 1)) size (omega arith) put wide))
-
       pub one_back : bytes_of_words words ≡ row (j - 1)
           → concatenated row j ++ drop (size * j) t ≡ concatenated row n
           → concatenated row (j - 1) ++ drop (size * (j - 1)) (placed t (size * (j - 1)) (size * (j - 1) + size) x) ≡ concatenated row n

@@ -1,9 +1,7 @@
 // The extension rows of a step's group, written as its result is computed.
 ghost use Rattle.std.specs.Prelude.{◌≡◌, ◌+◌, ◌*◌, ◌≤◌, ◌<◌, length};
-ghost use Rattle.form.specs.Data.{bit};
 ghost use Rattle.rules.specs.Sizes.{word_of};
 ghost use Rattle.machine.specs.Extension.{element_at};
-ghost use Rattle.tables.specs.Groups.{flag_add, flag_mul, flag_peq};
 ghost use Rattle.tabler_operands.specs.Elements.{result_from, result_holds, ElementExists, GroupExists};
 ghost use Rattle.tabler_rows.specs.Placed.{placed, row_in, group_bytes};
 
@@ -11,43 +9,7 @@ use element_ops::none;
 use form::Op;
 use rows::{Ext, put_ext};
 use tabler_cells::element_at;
-use tabler_operands::{Group, left_index, same, with_element};
-
-fn add_flag(op: Op) -> u32
-    ensures { result ≡ flag_add op }
-{
-    match op {
-        Op::Add => 1,
-        Op::Mul => 0,
-        Op::Peq => 0,
-    }
-}
-
-fn mul_flag(op: Op) -> u32
-    ensures { result ≡ flag_mul op }
-{
-    match op {
-        Op::Add => 0,
-        Op::Mul => 1,
-        Op::Peq => 0,
-    }
-}
-
-fn peq_flag(op: Op) -> u32
-    ensures { result ≡ flag_peq op }
-{
-    match op {
-        Op::Add => 0,
-        Op::Mul => 0,
-        Op::Peq => 1,
-    }
-}
-
-fn bit_of(b: bool) -> u32
-    ensures { result ≡ bit b }
-{
-    if b { 1 } else { 0 }
-}
+use tabler_operands::{Group, Joined, left_index, same, with_element};
 
 // Row j of a group: rest is what the elements after it come to, res the five cells at C.
 fn group_row(memory: &[u8], g: Group, j: u32, rest: [u32; 5], res: [u32; 5]) -> Ext
@@ -55,24 +17,20 @@ fn group_row(memory: &[u8], g: Group, j: u32, rest: [u32; 5], res: [u32; 5]) -> 
     requires rest_value { (rest ≡ result_from (word_of memory.now) g (j + 1)) × (res ≡ element_at (word_of memory.now) g.c) }
     ensures { result ≡ row_in (word_of memory.now) g j }
 {
-    let op = g.op;
-    let e = with_element(memory, g, j, rest);
-    let vA = e.left;
-    let vB = e.right;
-    let comp = e.comp;
+    let Joined { left, right, comp } = with_element(memory, g, j, rest);
     Ext {
-        start: bit_of(j == 0),
-        add: add_flag(op),
-        mul: mul_flag(op),
-        peq: peq_flag(op),
+        start: u32::from(j == 0),
+        add: u32::from(g.op == Op::Add),
+        mul: u32::from(g.op == Op::Mul),
+        peq: u32::from(g.op == Op::Peq),
         len: g.n - j,
         idxA: left_index(g.be, g.a, j),
         idxB: g.b + 5 * j,
         idxR: g.c,
-        be: bit_of(g.be),
-        base: vA[0],
-        vA,
-        vB,
+        be: u32::from(g.be),
+        base: left[0],
+        vA: left,
+        vB: right,
         comp,
         res,
     }
@@ -84,12 +42,9 @@ fn put_group(memory: &[u8], g: Group, part: &mut [u8]) -> bool
     ensures value { result ≡ result_holds (word_of memory.now) g }
     ensures part_after { part.new ≡ group_bytes (word_of memory.now) g }
 {
-    let op = g.op;
     let res = element_at(memory, g.c as usize);
-    let mut comp = none(op);
-    let mut j = g.n;
-    while 0 < j {
-        j = j - 1;
+    let mut comp = none(g.op);
+    for j in (0..g.n).rev() {
         let row = group_row(memory, g, j, comp, res);
         comp = row.comp;
         let at = 120 * (j as usize);

@@ -6,19 +6,14 @@ ghost use Rattle.tables.specs.Groups.{padding};
 ghost use Rattle.tabler_rows.specs.Placed.{ext_bytes, with_padding};
 
 use rows::{Ext, put_ext};
+use std::array;
 use tabler_cells::cell;
 
 // start 1, len 1, all indexes and flags 0; comp and res are cells 0 to 4.
 fn padding_row(memory: &[u8]) -> Ext
     ensures { result ≡ padding (word_of memory.now) }
 {
-    let five = [
-        cell(memory, 0),
-        cell(memory, 1),
-        cell(memory, 2),
-        cell(memory, 3),
-        cell(memory, 4),
-    ];
+    let five = array::from_fn(|k| cell(memory, k));
     Ext {
         start: 1,
         add: 0,
@@ -42,9 +37,7 @@ fn put_padding(memory: &[u8], part: &mut [u8])
     ensures { part.new ≡ concatenated (λ j. ext_bytes (padding (word_of memory.now))) (length part.old / 120) }
 {
     let row = padding_row(memory);
-    let mut j = part.len() / 120;
-    while 0 < j {
-        j = j - 1;
+    for j in 0..part.len() / 120 {
         let at = 120 * j;
         let end = at + 120;
         put_ext(&mut part[at..end], row);

@@ -1,29 +1,9 @@
 -- Document 01, "The tabler" and "Verdicts" 1 to 4 and 9 to 11: the tabler's answer, and both tables at return.
--- Declared in src/: Answer (answer).
-use Rattle.std.specs.Prelude.{ℕ, suc, ◌+◌, ◌-◌, ◌/◌, Bool, true, false, ◌&&◌, cond, List, [], length, replicate, leb, ltb, eqb}
+-- Declared in src/: Refusal (answer).
+use Rattle.std.specs.Prelude.{Ok, Err, ℕ, suc, ◌+◌, ◌-◌, ◌/◌, Bool, true, false, ◌&&◌, cond, List, [], length, replicate, leb, ltb, eqb}
 use Rattle.word.specs.Word.{p}
-use Rattle.answer.specs.declared.Answer.{Answer}
-use Rattle.answer.specs.declared.Answer.TheVariants.{
-  Accepted,
-  Size,
-  Word,
-  Instruction,
-  Start,
-  Exec,
-  Extension,
-  Bus,
-  Label,
-  Stuck,
-  Room,
-  Open,
-  Buffer,
-  Grid,
-  Edition,
-  Listing,
-  Short,
-  Host,
-  ListShort,
-}
+use Rattle.answer.specs.declared.Refusal.TheVariants as refusal
+use Rattle.answer.specs.Answers.{Answer, Accepted, Stuck, Room, Open, Start}
 use Rattle.machine.specs.Machine.{Machine, State}
 use Rattle.machine.specs.Step.{Outcome, goes, stuck, step}
 use Rattle.tables.specs.Machine.{machine_of}
@@ -75,25 +55,25 @@ table_of program memory pc fp exec ext =
 
 -- what a table holds at return: verdicts 1 to 4 change nothing, 9 to 11 leave zeros, ACCEPTED fills every byte
 abbrev pub held_after : Answer → List ℕ → List ℕ → List ℕ
-held_after Accepted old written = written
-held_after (Size part place) old written = old
-held_after (Word part place) old written = old
-held_after (Instruction place) old written = old
-held_after Start old written = old
-held_after (Exec row rule expected found) old written = old
-held_after (Extension row rule expected found) old written = old
-held_after (Bus part row) old written = old
-held_after (Label place) old written = old
-held_after (Stuck row rule) old written = replicate (length old) 0
-held_after (Room row) old written = replicate (length old) 0
-held_after (Open row) old written = replicate (length old) 0
-held_after Buffer old written = old
-held_after Grid old written = old
-held_after (Edition place) old written = old
-held_after (Listing place) old written = old
-held_after (Short place) old written = old
-held_after Host old written = old
-held_after (ListShort place) old written = old
+held_after (Ok x) old written = written
+held_after (Err (refusal.Size part place)) old written = old
+held_after (Err (refusal.Word part place)) old written = old
+held_after (Err (refusal.Instruction place)) old written = old
+held_after (Err refusal.Start) old written = old
+held_after (Err (refusal.Exec row rule expected found)) old written = old
+held_after (Err (refusal.Extension row rule expected found)) old written = old
+held_after (Err (refusal.Bus part row)) old written = old
+held_after (Err (refusal.Label place)) old written = old
+held_after (Err (refusal.Stuck row rule)) old written = replicate (length old) 0
+held_after (Err (refusal.Room row)) old written = replicate (length old) 0
+held_after (Err (refusal.Open row)) old written = replicate (length old) 0
+held_after (Err refusal.Buffer) old written = old
+held_after (Err refusal.Grid) old written = old
+held_after (Err (refusal.Edition place)) old written = old
+held_after (Err (refusal.Listing place)) old written = old
+held_after (Err (refusal.Short place)) old written = old
+held_after (Err refusal.Host) old written = old
+held_after (Err (refusal.ListShort place)) old written = old
 
 abbrev pub exec_after : List ℕ → List ℕ → ℕ → ℕ → List ℕ → List ℕ → List ℕ
 exec_after program memory pc fp exec ext =

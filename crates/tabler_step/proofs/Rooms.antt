@@ -17,23 +17,26 @@ use Rattle.tabler_operands.specs.declared.Operands.{Operands}
 use Rattle.tabler_rows.specs.Placed.{placed}
 use Rattle.tabler_rows.proofs.Lent.{none_placed, no_rows}
 use Rattle.tabler_step.specs.Taken.{moved_of, taken_of, taken_ext, kind_bytes, writes}
-use Rattle.tabler_step.specs.declared.Moved.TheVariants.{Stuck, Full}
+use Rattle.std.specs.Prelude.{Result, Err}
+use Rattle.tabler_step.specs.declared.Halt.TheVariants.{Stuck, Full}
+use Rattle.tabler_step.specs.declared.Halt.{Halt}
 use Rattle.tabler_step.specs.declared.Moved.{Moved}
 
 -- what is handed on after an outcome, and the table with n rows after it
-abbrev Handed : Moved → List ℕ → List ℕ → ℕ → ℕ → List ℕ → Outcome → Type 0
+abbrev Handed : Result Moved Halt → List ℕ → List ℕ → ℕ → ℕ → List ℕ → Outcome → Type 0
 Handed x ext' ext filled n bytes o =
     record { value : x ≡ taken_of o (filled + n) (length ext / 120); ext_after : ext' ≡ taken_ext o filled n bytes ext }
 
 -- where all operands are legal what is asked of them decides
-pub all_legal : {a b c : Bool} → a ≡ true → b ≡ true → c ≡ true → {x : Moved} {ext' : List ℕ} (ext : List ℕ) (filled n : ℕ) (bytes : List ℕ) (o : Outcome)
+pub all_legal : {a b c : Bool} → a ≡ true → b ≡ true → c ≡ true → {x : Result Moved Halt} {ext' : List ℕ} (ext : List ℕ) (filled n : ℕ) (bytes : List ℕ) (o : Outcome)
     → Handed x ext' ext filled n bytes o → Handed x ext' ext filled n bytes (asked 2 a (asked 3 b (asked 4 c o)))
 all_legal ha hb hc ext filled n bytes o h = rw (ha, hb, hc) h
 
 -- stuck before a group is written
-pub halts : (rule : ℕ) → eqb rule 8 ≡ false → (ext : List ℕ) (filled n : ℕ) (bytes : List ℕ) → Handed (Stuck rule) ext ext filled n bytes (stuck rule)
+pub halts : {x : Result Moved Halt} (rule : ℕ) → eqb rule 8 ≡ false → x ≡ Err (Stuck rule) → (ext : List ℕ) (filled n : ℕ) (bytes : List ℕ)
+    → Handed x ext ext filled n bytes (stuck rule)
 unfolding taken_of taken_ext
-halts rule h ext filled n bytes = rw h (record { value = refl; ext_after = refl })
+halts rule h e ext filled n bytes = rw h (record { value = e; ext_after = refl })
 
 with_room : (o : Outcome) {k room : ℕ} → k < room → moved_of o k ≡ taken_of o k room
 unfolding taken_of
@@ -49,19 +52,19 @@ pub no_bytes : (cell : ℕ → ℕ) (kind : Kind) (o : Operands) → length_of k
 unfolding kind_bytes
 no_bytes cell kind o none = no_rows _ none
 
-pub no_group : (o : Outcome) (filled : ℕ) (ext : List ℕ) {x : Moved} {bytes : List ℕ} → filled < length ext / 120
+pub no_group : (o : Outcome) (filled : ℕ) (ext : List ℕ) {x : Result Moved Halt} {bytes : List ℕ} → filled < length ext / 120
     → x ≡ moved_of o filled → bytes ≡ [] → Handed x ext ext filled 0 bytes o
 unfolding taken_ext
 no_group o filled ext h e none = record { value = rw (add-zero filled) (e ∙ with_room o h); ext_after = untouched (writes o && ltb (filled + 0) (length ext / 120)) ext filled none }
 
 -- a group by whether its result holds
-pub no_room : (holds : Bool) (s : State) (filled n : ℕ) (ext bytes : List ℕ) {x : Moved} → length ext / 120 ≤ filled + n
-    → x ≡ cond holds Full (Stuck 8) → Handed x ext ext filled n bytes (asked 8 holds (forward s))
+pub no_room : (holds : Bool) (s : State) (filled n : ℕ) (ext bytes : List ℕ) {x : Result Moved Halt} → length ext / 120 ≤ filled + n
+    → x ≡ cond holds (Err Full) (Err (Stuck 8)) → Handed x ext ext filled n bytes (asked 8 holds (forward s))
 unfolding taken_of taken_ext
 no_room true s filled n ext bytes h e = rw (le-ltb (filled + n) (length ext / 120) h) (record { value = e; ext_after = refl })
 no_room false s filled n ext bytes h e = rw (le-ltb (filled + n) (length ext / 120) h) (record { value = e; ext_after = refl })
 
-pub with_group : (holds : Bool) (s : State) (filled n : ℕ) (ext bytes : List ℕ) {x : Moved} {ext' : List ℕ} → filled + n < length ext / 120
+pub with_group : (holds : Bool) (s : State) (filled n : ℕ) (ext bytes : List ℕ) {x : Result Moved Halt} {ext' : List ℕ} → filled + n < length ext / 120
     → x ≡ moved_of (asked 8 holds (forward s)) (filled + n) → ext' ≡ placed ext (120 * filled) (120 * filled + 120 * n) bytes
     → Handed x ext' ext filled n bytes (asked 8 holds (forward s))
 unfolding taken_of taken_ext

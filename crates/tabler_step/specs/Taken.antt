@@ -1,6 +1,6 @@
 -- Inner: what the code of a step hands on, and the extension table after it.
--- Declared in src/: Kind (form); Group, Operands (tabler_operands); Moved (here).
-use Rattle.std.specs.Prelude.{Bool, true, ◌&&◌, cond, List, ℕ, ◌+◌, ◌*◌, ◌/◌, ◌≤◌, ◌<◌, ◌^◌, ltb, eqb, length}
+-- Declared in src/: Kind (form); Group, Operands (tabler_operands); Halt, Moved (here).
+use Rattle.std.specs.Prelude.{Result, Ok, Err, Bool, true, ◌&&◌, cond, List, ℕ, ◌+◌, ◌*◌, ◌/◌, ◌≤◌, ◌<◌, ◌^◌, ltb, eqb, length}
 use Rattle.word.specs.Bytes.{concatenated}
 use Rattle.word.specs.Word.{◌+ₚ◌, ◌*ₚ◌}
 use Rattle.form.specs.declared.Kind.TheVariants.{Add, Mul, Deref, Jump, Extension}
@@ -12,18 +12,23 @@ use Rattle.tabler_operands.specs.Elements.{group_exists, result_holds}
 use Rattle.tabler_operands.specs.declared.Group.{Group}
 use Rattle.tabler_operands.specs.declared.Operands.{Operands}
 use Rattle.tabler_rows.specs.Placed.{ext_bytes, placed}
-use Rattle.tabler_step.specs.declared.Moved.TheVariants.{Stuck, Full, Goes}
+use Rattle.tabler_step.specs.declared.Halt.TheVariants.{Stuck, Full}
+use Rattle.tabler_step.specs.declared.Halt.{Halt}
 use Rattle.tabler_step.specs.declared.Moved.{Moved}
 
+-- a state with k rows filled
+abbrev pub moved_to : State → ℕ → Moved
+moved_to s k = record { to = record { pc = s.pc; fp = s.fp }; filled = k }
+
 -- an outcome, with k rows filled after it
-abbrev pub moved_of : Outcome → ℕ → Moved
-moved_of (goes s) k = Goes s.pc s.fp k
-moved_of (stuck rule) k = Stuck rule
+abbrev pub moved_of : Outcome → ℕ → Result Moved Halt
+moved_of (goes s) k = Ok (moved_to s k)
+moved_of (stuck rule) k = Err (Stuck rule)
 
 -- the same where k plus 1 may be above so many rows
-unfoldable pub taken_of : Outcome → ℕ → ℕ → Moved
-taken_of (goes s) k room = cond (ltb k room) (Goes s.pc s.fp k) Full
-taken_of (stuck rule) k room = Stuck rule
+unfoldable pub taken_of : Outcome → ℕ → ℕ → Result Moved Halt
+taken_of (goes s) k room = cond (ltb k room) (Ok (moved_to s k)) (Err Full)
+taken_of (stuck rule) k room = Err (Stuck rule)
 
 -- a group is written where the step goes on, and where nothing but its result is wrong
 abbrev pub writes : Outcome → Bool

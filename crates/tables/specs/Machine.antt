@@ -1,12 +1,10 @@
 -- Document 01, "Layouts" and "Well-formed instructions": the machine of a program's and a memory's bytes.
--- Declared in src/: Instruction, Decoded, Kind, Form, Operand, Mode (form).
-use Rattle.std.specs.Prelude.{ℕ, ◌*◌, ◌/◌, List, length}
+-- Declared in src/: Instruction, Kind, Form, Operand, Mode (form).
+use Rattle.std.specs.Prelude.{ℕ, ◌*◌, ◌/◌, List, length, Option, Some, None}
 use Rattle.word.specs.Bytes.{word_at}
 use Rattle.form.specs.Form.{decode_of}
 use Rattle.form.specs.Instruction.{instruction_at}
 use Rattle.form.specs.declared.Instruction.{Instruction}
-use Rattle.form.specs.declared.Decoded.{Decoded}
-use Rattle.form.specs.declared.Decoded.TheVariants.{Malformed, Well}
 use Rattle.form.specs.declared.Kind.TheVariants.{Jump}
 use Rattle.form.specs.declared.Form.{Form}
 use Rattle.form.specs.declared.Operand.{Operand}
@@ -17,9 +15,9 @@ use Rattle.machine.specs.Machine.{Machine}
 abbrev pub immediate : ℕ → Operand
 immediate x = record { mode = Immediate; word = x }
 
-abbrev pub form_in : Decoded → Form
-form_in (Well f) = f
-form_in Malformed = record { kind = Jump; a = immediate 0; b = immediate 0; c = immediate 0 }
+abbrev pub form_in : Option Form → Form
+form_in (Some f) = f
+form_in None = record { kind = Jump; a = immediate 0; b = immediate 0; c = immediate 0 }
 
 -- the machine of numbered instructions and cells
 abbrev pub loaded : ℕ → (ℕ → Instruction) → ℕ → (ℕ → ℕ) → Machine

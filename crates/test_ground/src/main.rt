@@ -9,29 +9,23 @@ use print::{bytes, element, end, number, word};
 use std::io;
 
 // Five words as drawn, so also at and above p.
-#[derive(Drop)]
-struct ElementDrawn {
-    words: [u32; 5],
-    next: Generator,
-}
-
-fn draw_element(g: Generator) -> ElementDrawn {
-    let a = g.draw();
-    let b = a.next.draw();
-    let c = b.next.draw();
-    let d = c.next.draw();
-    let e = d.next.draw();
-    let words = [a.number, b.number, c.number, d.number, e.number];
-    let next = e.next;
-    ElementDrawn { words, next }
+fn draw_element(g: &mut Generator) -> [u32; 5] {
+    [
+        g.next_number(),
+        g.next_number(),
+        g.next_number(),
+        g.next_number(),
+        g.next_number(),
+    ]
 }
 
 // 0, 1, p - 1, p, p + 1, 2p, 2p + 1, 2^32 - 1
+const EDGES: [u32; 8] = [
+    0, 1, 2130706432, 2130706433, 2130706434, 4261412866, 4261412867, 4294967295,
+];
+
 fn edge(i: u32) -> u32 {
-    let edges: [u32; 8] = [
-        0, 1, 2130706432, 2130706433, 2130706434, 4261412866, 4261412867, 4294967295,
-    ];
-    edges[(i % 8) as usize]
+    EDGES[(i % 8) as usize]
 }
 
 // Five edges, from one on and by steps of three.
@@ -45,9 +39,7 @@ fn draws(rt: &impl Print, seed: u64) -> io::Result<()> {
     number(rt, seed)?;
     let mut g = Generator::new(seed);
     for _ in 0..8u32 {
-        let d = g.draw();
-        word(rt, d.number)?;
-        g = d.next;
+        word(rt, g.next_number())?;
     }
     end(rt)
 }
@@ -72,10 +64,9 @@ fn edge_words(rt: &impl Print) -> io::Result<()> {
 fn drawn_words(rt: &impl Print, seed: u64) -> io::Result<()> {
     let mut g = Generator::new(seed);
     for _ in 0..40u32 {
-        let x = g.draw();
-        let y = x.next.draw();
-        words(rt, x.number, y.number)?;
-        g = y.next;
+        let x = g.next_number();
+        let y = g.next_number();
+        words(rt, x, y)?;
     }
     Ok(())
 }
@@ -99,13 +90,10 @@ fn edge_elements(rt: &impl Print) -> io::Result<()> {
 fn drawn_elements(rt: &impl Print, seed: u64) -> io::Result<()> {
     let mut g = Generator::new(seed);
     for k in 0..10 {
-        let first = draw_element(g);
-        let second = draw_element(first.next);
-        let a = first.words;
-        let b = second.words;
+        let a = draw_element(&mut g);
+        let b = draw_element(&mut g);
         elements(rt, a, b)?;
         elements(rt, b, edge_element(k))?;
-        g = second.next;
     }
     Ok(())
 }

@@ -6,7 +6,7 @@ pub(crate) fn number(rt: &impl Print, n: u64) -> io::Result<()> {
 }
 
 pub(crate) fn word(rt: &impl Print, x: u32) -> io::Result<()> {
-    number(rt, x as u64)
+    number(rt, u64::from(x))
 }
 
 pub(crate) fn end(rt: &impl Print) -> io::Result<()> {
@@ -15,21 +15,19 @@ pub(crate) fn end(rt: &impl Print) -> io::Result<()> {
 
 pub(crate) fn element(rt: &impl Print, name: &[u8], a: [u32; 5]) -> io::Result<()> {
     rt.write_all(name)?;
-    word(rt, a[0])?;
-    word(rt, a[1])?;
-    word(rt, a[2])?;
-    word(rt, a[3])?;
-    word(rt, a[4])?;
+    for x in a {
+        word(rt, x)?;
+    }
     end(rt)
 }
 
 fn byte(rt: &impl Print, x: u8) -> io::Result<()> {
-    number(rt, x as u64)
+    number(rt, u64::from(x))
 }
 
 pub(crate) fn bytes(rt: &impl Print, s: &[u8]) -> io::Result<()> {
-    for i in 0..s.len() {
-        byte(rt, s[i])?;
+    for x in s {
+        byte(rt, *x)?;
     }
     Ok(())
 }

@@ -77,7 +77,6 @@ pub extern "C" fn probe_write(
     ensures text_after { text.new ≡ buffered (recipe_of version seed m n) text.old }
 {
     let done = write_label(recipe(version, seed, m, n), text);
-    let a = done.answer;
-    reply(answer, a);
-    done.length
+    reply(answer, done.and(Ok(())));
+    done.unwrap_or(0)
 }

@@ -1,35 +1,17 @@
--- A byte's number among some letters: how it is looked for from the first on, and that letters that differ are digits.
+-- A byte's number among some letters: its first place, and that letters that differ are digits.
 -- Assumes nothing.
-use Prim.Native.Nat.{ℕ, ◌+◌, ◌≤◌, ◌<◌}
+use Prim.Native.Nat.{ℕ, ◌<◌}
 use mathlib.Core.List.{List, [], ◌∷◌}
-use mathlib.Core.Path.{◌≡◌, sym, ◌∙◌}
-use native.Mathlib.Nat.{add-zero}
-use native.Mathlib.Numerals.{add-one}
+use mathlib.Core.Path.{◌≡◌, refl}
 use native.Mathlib.Omega.{arith}
 use lib.Dec.{eqb}
-use lib.ListN.{length, get_or, drop, drop_of_length-le}
-use lib.Seq.{drop-cons}
-use borrow.Author.Tests.{eq-eqb, ne_eqb, eqb-true}
-use Rattle.word.proofs.Tests.{cases}
+use lib.ListN.{length, get_or}
+use borrow.Author.Tests.{lt-ltb, le-ltb, eqb-true}
+use Rattle.std.specs.List.{position_or_len, position}
+use Rattle.std.specs.Prelude.{◌==◌, Option}
+use Rattle.word.proofs.Tests.{cases, by_order}
 use Rattle.text_patterns.specs.Fields.{Digits}
-use Rattle.text_fields.specs.Digit.{index_in}
-
--- the first k letters are others
-abbrev pub Sought : List ℕ → ℕ → ℕ → Type 0
-Sought letters byte k = index_in letters byte ≡ k + index_in (drop k letters) byte
-
-module _ (letters : List ℕ) (byte k : ℕ) (s : Sought letters byte k) where
-  pub found : k < length letters → get_or letters k 0 ≡ byte → k ≡ index_in letters byte
-  unfolding index_in
-  found h e = sym (s ∙ rw (drop-cons letters k 0 h, eq-eqb (get_or letters k 0) byte e) (add-zero k))
-
-  pub another : k < length letters → (get_or letters k 0 ≡ byte → ⊥) → Sought letters byte (k + 1)
-  unfolding index_in
-  another h e = s ∙ rw (drop-cons letters k 0 h, ne_eqb (get_or letters k 0) byte e, add-one k) (omega arith)
-
-  pub none_left : length letters ≤ k → k ≡ index_in letters byte
-  unfolding index_in
-  none_left h = sym (s ∙ rw (drop_of_length-le letters {i = k} h) (add-zero k))
+use Rattle.text_fields.specs.Digit.{index_in, DigitOf}
 
 -- a byte that is a letter is the letter of its number
 pub letter_back : (letters : List ℕ) (b : ℕ) → index_in letters b < length letters → get_or letters (index_in letters b) 0 ≡ b
@@ -44,3 +26,15 @@ pub letters_differ : (letters : List ℕ) → 0 < length letters
     → ((d : ℕ) → d < length letters → index_in letters (get_or letters d 0) ≡ d)
     → Digits (length letters) (λ d. get_or letters d 0) (index_in letters)
 letters_differ letters some differ = record { some = some; value_byte = differ; byte_value = letter_back letters }
+
+-- the first place where a letter is a byte
+index_is : (letters : List ℕ) (b : ℕ) → position_or_len (λ x. x == b) letters ≡ index_in letters b
+unfolding index_in
+index_is [] b = refl
+index_is (x ∷ xs) b = cases (eqb x b) (λ e. rw e) (λ e. rw (e, index_is xs b) (omega arith))
+
+pub first_place : (letters : List ℕ) (b : ℕ) (r : Option ℕ) → r ≡ position (λ x. x == b) letters → DigitOf (index_in letters) (length letters) b r
+first_place letters b r e =
+    rw (e, index_is letters b)
+    (by_order (index_in letters b) (length letters) (λ h. rw (lt-ltb (index_in letters b) (length letters) h) (refl, h))
+    (λ h. rw (le-ltb (index_in letters b) (length letters) h) h))

@@ -9,3 +9,4 @@ pub mod Letters
 pub mod SixteenHex
 pub mod Toward
 pub mod Decimals
+pub mod One

@@ -1,6 +1,6 @@
 -- A number is in a range or it is not, in the code's words and in a field's.
 -- Assumes nothing.
-use Prim.Native.Nat.{ℕ, ◌≤◌}
+use Prim.Native.Nat.{ℕ, ◌≤◌, ◌<◌}
 use mathlib.Core.Bool.{Bool, true, false, not, ◌&&◌, ◌||◌}
 use mathlib.Core.List.{[], ◌∷◌}
 use mathlib.Core.Path.{◌≡◌, refl, sym}
@@ -30,11 +30,11 @@ module _ (low high d : ℕ) where
   inside e = rw (not_below low d, not_below d high) (all (ltb d low) (ltb high d) e)
 
   -- the same of a digit
-  pub digit_outside : (leb 10 d || ltb d low) || ltb high d ≡ true → ltb d 10 && (leb low d && leb d high) ≡ false
-  digit_outside e = cases (ltb d 10) (λ t. rw t (outside (rw (not_below 10 d, t) at e))) (λ t. rw t)
+  pub digit_outside : ltb d low || ltb high d ≡ true → ltb d 10 && (leb low d && leb d high) ≡ false
+  digit_outside e = cases (ltb d 10) (λ t. rw t (outside e)) (λ t. rw t)
 
-  pub digit_inside : (leb 10 d || ltb d low) || ltb high d ≡ false → ltb d 10 && (leb low d && leb d high) ≡ true
-  digit_inside e = cases (ltb d 10) (λ t. rw t (inside (rw (not_below 10 d, t) at e))) (λ t. absurd (from_true false (sym (rw (not_below 10 d, t) at e))))
+  pub digit_inside : d < 10 → ltb d low || ltb high d ≡ false → ltb d 10 && (leb low d && leb d high) ≡ true
+  digit_inside h e = rw (lt-ltb d 10 h) (inside e)
 
   pub most : ltb d low || ltb high d ≡ false → d ≤ high
   most e = leb-true d high (each (leb low d) (leb d high ∷ []) (inside e)).1

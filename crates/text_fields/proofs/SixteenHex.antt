@@ -4,7 +4,7 @@ use Prim.Native.Nat.{ℕ, suc, ◌+◌, ◌-◌, ◌*◌, ◌^◌, ◌≤◌, �
 use mathlib.Core.Bool.{Bool, true, false}
 use mathlib.Core.List.{List}
 use mathlib.Core.Path.{◌≡◌}
-use native.Mathlib.Nat.{pow-le-pow_right, pow-suc}
+use native.Mathlib.Nat.{add-zero, pow-le-pow_right, pow-suc}
 use native.Mathlib.Numerals.{add-one}
 use native.Mathlib.Omega.{arith}
 use lib.Dec.{ltb, lit<}
@@ -49,3 +49,7 @@ module _ (text : List ℕ) (i k x : ℕ) (h : k < 16) where
 
   pub hex_small : (d : ℕ) → d < 16 → x < 16 ^ k → 16 * x + d < 16 ^ (k + 1)
   hex_small d b small = rw (add-one k) (omega (arith, pow-suc 16 k))
+
+-- before the first digit all of them are left
+pub hex_none_yet : (text : List ℕ) (at : ℕ) → parse (digits 16 hex_value 16 0) (drop at text) ≡ parse (digits 16 hex_value (16 - 0) 0) (drop (at + 0) text)
+hex_none_yet text at = rw (add-zero at)

@@ -1,8 +1,5 @@
 -- Inner: what a byte is worth as a digit, and whether a number goes on with it.
--- Declared in src/: number (here).
-use Rattle.std.specs.Prelude.{ℕ, zero, suc, ◌+◌, ◌-◌, ◌*◌, Bool, true, cond, ◌&&◌, List, [], ◌∷◌, ltb, leb, eqb, get_or}
-use Rattle.text_fields.specs.declared.number.Step.{Step}
-use Rattle.text_fields.specs.declared.number.Step.TheVariants.{On, End, Stop}
+use Rattle.std.specs.Prelude.{ℕ, zero, suc, ◌+◌, ◌-◌, ◌*◌, ◌<◌, ◌≤◌, ◌≡◌, Bool, true, cond, ◌&&◌, List, [], ◌∷◌, ltb, leb, eqb, get_or, Option, Some, None, MatchOption}
 
 -- the value of a lower-case hex digit, 16 for any other byte
 unfoldable pub hex_value : ℕ → ℕ
@@ -17,12 +14,15 @@ unfoldable pub index_in : List ℕ → ℕ → ℕ
 index_in [] b = 0
 index_in (x ∷ xs) b = cond (eqb x b) 0 (suc (index_in xs b))
 
--- a byte behind the digits of x, in a number of at most high that a byte ends
-unfoldable pub next_digit : ℕ → ℕ → ℕ → ℕ → Step
-next_digit x high end b =
-    cond (eqb end b) End
-    (cond (ltb (decimal_value b) 10)
-    (cond (ltb 0 x) (cond (leb (10 * x + decimal_value b) high) (On (10 * x + decimal_value b)) Stop) Stop) Stop)
+-- a byte as a digit of a base: its value, or none
+abbrev pub DigitOf : (ℕ → ℕ) → ℕ → ℕ → Option ℕ → Type 0
+DigitOf value base b r = MatchOption r (base ≤ value b) (λ d. (d ≡ value b) × (d < base))
+
+-- the digits of x and one more, in a number of at most high, where a byte may follow
+unfoldable pub next_digit : ℕ → ℕ → ℕ → Option ℕ
+next_digit x high b =
+    cond (ltb (decimal_value b) 10)
+    (cond (ltb 0 x) (cond (leb (10 * x + decimal_value b) high) (Some (10 * x + decimal_value b)) None) None) None
 
 -- a test holds of every number below n
 unfoldable pub every : (ℕ → Bool) → ℕ → Bool

@@ -1,18 +1,24 @@
--- Inner: what the reader of a field owes: the field's own reading, from where a cursor stands.
--- Declared in src/: Cursor (here).
-use Rattle.std.specs.Prelude.{ℕ, ◌-◌, true, false, cond, List, length, drop}
-use Rattle.text_patterns.specs.Pattern.{Pattern, Parsed, got, left, parse, onto}
-use Rattle.text_fields.specs.declared.Cursor.{Cursor}
+-- Inner: what the reader of a field owes: the field's own reading, from a place of the text on.
+-- Declared in src/: Field, Stop (here).
+use Rattle.std.specs.Prelude.{ℕ, ◌≤◌, ◌≡◌, List, length, drop, Result, MatchResult}
+use Rattle.text_patterns.specs.Pattern.{Pattern, done, lit, got, left, parse}
+use Rattle.text_fields.specs.declared.Field.{Field}
+use Rattle.text_fields.specs.declared.Stop.{Stop}
 
--- a cursor as a reading: a value and the bytes behind it; or those from which on the text is no valid one
-abbrev pub standing : List ℕ → Cursor → Parsed ℕ
-standing text c = cond c.stopped (left (drop c.at text)) (got c.value (drop c.at text))
+-- a value is read, and the bytes from a place on are left
+pub record Reaches {A : Type 0} (f : Pattern A) (text : List ℕ) (at : ℕ) (value : A) (to : ℕ) : Type 0 where
+  pub inside : to ≤ length text
+  pub read : parse f (drop at text) ≡ got value (drop to text)
 
--- where a reading of a text leaves a cursor
-abbrev pub cursor_at : List ℕ → Parsed ℕ → Cursor
-cursor_at text (got v rest) = record { at = length text - length rest; value = v; stopped = false }
-cursor_at text (left rest) = record { at = length text - length rest; value = 0; stopped = true }
+-- the bytes from a place on are left, and no valid text has them there
+pub record Stops {A : Type 0} (f : Pattern A) (text : List ℕ) (at to : ℕ) : Type 0 where
+  pub inside : to ≤ length text
+  pub read : parse f (drop at text) ≡ left (drop to text)
 
--- a field is read behind a cursor, and nothing where that has stopped
-abbrev pub read_behind : Pattern ℕ → List ℕ → Cursor → Cursor
-read_behind field text from = cursor_at text (onto (λ v. parse field) (standing text from))
+-- a field is read from a place on
+abbrev pub Read : {A : Type 0} → Pattern A → List ℕ → ℕ → Result (Field A) Stop → Type 0
+Read f text at r = MatchResult r (λ v. Reaches f text at v.value v.at) (λ s. Stops f text at s.at)
+
+-- fixed bytes are passed from a place on
+abbrev pub Passed : List ℕ → List ℕ → ℕ → Result ℕ Stop → Type 0
+Passed word text at r = MatchResult r (λ to. Reaches {A = ℕ} (lit word (done 0)) text at 0 to) (λ s. Stops {A = ℕ} (lit word (done 0)) text at s.at)

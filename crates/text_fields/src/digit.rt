@@ -1,6 +1,6 @@
 // What a byte is worth as a digit.
 ghost use Rattle.std.specs.Prelude.{◌≡◌, ◌≤◌, ◌<◌, ltb};
-ghost use Rattle.text_fields.specs.Digit.{hex_value, decimal_value};
+ghost use Rattle.text_fields.specs.Digit.{hex_value, decimal_value, DigitOf};
 
 // Whether a byte is a lower-case hex digit, with no branch: which of the two kinds it is cannot be foretold.
 pub(crate) fn is_hex(byte: u8) -> bool
@@ -9,30 +9,21 @@ pub(crate) fn is_hex(byte: u8) -> bool
     ((48 <= byte) & (byte < 58)) | ((97 <= byte) & (byte < 103))
 }
 
-fn wide(byte: u8) -> u64
-    ensures { result ≡ byte }
-{
-    byte as u64
-}
-
 // The value of a byte that is a hex digit, with no branch: its low four bits, and 9 more for a letter.
 pub(crate) fn known_hex(byte: u8) -> u64
     requires { hex_value byte < 16 }
     ensures { (result ≡ hex_value byte) × (result < 16) }
 {
-    let b = wide(byte);
+    let b = u64::from(byte);
     b % 16 + 9 * (b / 64)
 }
 
-// The value of a decimal digit, 10 for any other byte.
-pub(crate) fn decimal_value(byte: u8) -> u64
-    ensures { (result ≡ decimal_value byte) × (result ≤ 10) }
+// The value of a byte that is a decimal digit.
+pub(crate) fn decimal_value(byte: u8) -> Option<u64>
+    ensures { DigitOf decimal_value 10 byte result }
 {
-    if byte < 48 {
-        return 10;
+    match byte {
+        b'0'..=b'9' => Some(u64::from(byte - b'0')),
+        _ => None,
     }
-    if byte < 58 {
-        return (byte - 48) as u64;
-    }
-    10
 }

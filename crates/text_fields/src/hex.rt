@@ -1,12 +1,12 @@
 // Sixteen lower-case hex digits, all 64 bits.
-ghost use Rattle.std.specs.Prelude.{true, false, ◌≡◌, ◌+◌, ◌≤◌, length, drop};
+ghost use Rattle.std.specs.Prelude.{true, ◌≡◌, ◌+◌, ◌≤◌, length, drop};
 ghost use Rattle.text_patterns.specs.Pattern.{parse, got};
 ghost use Rattle.text_patterns.specs.Fields.{digits};
 ghost use Rattle.text_fields.specs.Digit.{hex_value, every, hex_at};
-ghost use Rattle.text_fields.specs.Field.{read_behind};
+ghost use Rattle.text_fields.specs.Field.{Read};
 
 use crate::digit::{is_hex, known_hex};
-use crate::{Cursor, stop_at};
+use crate::{Field, Stop};
 
 // Whether the sixteen bytes from a place on are digits: no test waits for the one before it.
 fn all_hex(text: &[u8], at: usize) -> bool
@@ -14,10 +14,8 @@ fn all_hex(text: &[u8], at: usize) -> bool
     ensures { result ≡ every (hex_at text.now at) 16 }
 {
     let mut good = true;
-    let mut k: usize = 0;
-    while k < 16 {
-        good = good & is_hex(text[at + k]);
-        k += 1;
+    for k in 0..16 {
+        good &= is_hex(text[at + k]);
     }
     good
 }
@@ -28,59 +26,47 @@ fn hex_number(text: &[u8], at: usize) -> u64
     ensures { parse (digits 16 hex_value 16 0) (drop at text.now) ≡ got result (drop (at + 16) text.now) }
 {
     let mut x = 0;
-    let mut k = 0usize;
-    while k < 16 {
-        x = 16 * x + known_hex(text[at + k]);
-        k += 1;
+    for i in 0..16 {
+        x = 16 * x + known_hex(text[at + i]);
     }
     x
 }
 
 // Digit by digit, to the byte that is none.
-fn hex_by_digit(text: &[u8], from: Cursor) -> Cursor
-    requires { (from.at ≤ length text.now) × (from.stopped ≡ false) }
-    ensures { (result ≡ read_behind (digits 16 hex_value 16 0) text.now from) × (result.at ≤ length text.now) }
+fn hex_by_digit(text: &[u8], at: usize) -> Result<Field<u64>, Stop>
+    requires { at ≤ length text.now }
+    ensures { Read (digits 16 hex_value 16 0) text.now at result }
 {
-    let at = from.at;
-    let mut i = at;
     let mut x = 0;
-    let mut k: usize = 0;
-    while k < 16 {
+    for k in 0..16 {
+        let i = at + k;
         if text.len() <= i {
-            return stop_at(i);
+            return Err(Stop { at: i });
         }
         let byte = text[i];
         if !is_hex(byte) {
-            return stop_at(i);
+            return Err(Stop { at: i });
         }
         x = 16 * x + known_hex(byte);
-        i += 1;
-        k += 1;
     }
-    Cursor {
-        at: i,
+    Ok(Field {
         value: x,
-        stopped: false,
-    }
+        at: at + 16,
+    })
 }
 
 // All sixteen at once; where that does not go, the place is looked for.
-pub fn read_hex(text: &[u8], from: Cursor) -> Cursor
-    requires { from.at ≤ length text.now }
-    ensures { (result ≡ read_behind (digits 16 hex_value 16 0) text.now from) × (result.at ≤ length text.now) }
+pub fn read_hex(text: &[u8], at: usize) -> Result<Field<u64>, Stop>
+    requires { at ≤ length text.now }
+    ensures { Read (digits 16 hex_value 16 0) text.now at result }
 {
-    let at = from.at;
-    if from.stopped {
-        return stop_at(at);
-    }
     if 16 <= text.len() - at {
         if all_hex(text, at) {
-            return Cursor {
-                at: at + 16,
+            return Ok(Field {
                 value: hex_number(text, at),
-                stopped: false,
-            };
+                at: at + 16,
+            });
         }
     }
-    hex_by_digit(text, from)
+    hex_by_digit(text, at)
 }

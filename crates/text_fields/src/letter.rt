@@ -1,44 +1,45 @@
 // One of some letters.
-ghost use Rattle.std.specs.Prelude.{◌≡◌, ◌≤◌, ◌<◌, length};
+ghost use Rattle.std.specs.Prelude.{◌≡◌, ◌≤◌, ◌<◌, length, IfOk, position, ◌==◌};
 ghost use Rattle.text_patterns.specs.Fields.{one};
 ghost use Rattle.text_fields.specs.Digit.{index_in};
-ghost use Rattle.text_fields.specs.Field.{read_behind};
+ghost use Rattle.text_fields.specs.Field.{Read};
 
-use crate::{Cursor, stop_at};
+use crate::{Field, Stop};
 
-// A byte's number among some letters; how many there are where it is none of them.
-fn letter_value(letters: &[u8], byte: u8) -> u64
-    ensures { result ≡ index_in letters.now byte }
+// A byte's number among some letters.
+fn letter_value(letters: &[u8], byte: u8) -> Option<usize>
+    ensures { result ≡ position (λ letter. letter == byte) letters.now }
 {
-    let mut k = 0;
-    while k < letters.len() {
-        if letters[k] == byte {
-            return k as u64;
-        }
-        k += 1;
-    }
-    k as u64
+    letters.iter().position(|letter| *letter == byte)
 }
 
+// stays: beside read_digit, which is timed: a digit's value is a subtraction, and a letter's number is looked for.
+
 // One of some letters, by its number; those below low and above high are not allowed.
-pub fn read_letter(text: &[u8], from: Cursor, letters: &[u8], low: u64, high: u64) -> Cursor
-    requires { (from.at ≤ length text.now) × (high < length letters.now) }
-    ensures { (result ≡ read_behind (one (index_in letters.now) low high) text.now from) × (result.at ≤ length text.now) × (result.value ≤ high) }
+pub fn read_letter(
+    text: &[u8],
+    at: usize,
+    letters: &[u8],
+    low: u64,
+    high: u64,
+) -> Result<Field<u64>, Stop>
+    requires inside { at ≤ length text.now }
+    requires letters { high < length letters.now }
+    ensures read { Read (one (index_in letters.now) low high) text.now at result }
+    ensures within { IfOk result (λ r. r.value ≤ high) }
 {
-    let at = from.at;
-    if from.stopped {
-        return stop_at(at);
-    }
     if text.len() <= at {
-        return stop_at(at);
+        return Err(Stop { at });
     }
-    let d = letter_value(letters, text[at]);
+    let Some(number) = letter_value(letters, text[at]) else {
+        return Err(Stop { at });
+    };
+    let d = number as u64;
     if (d < low) | (high < d) {
-        return stop_at(at);
+        return Err(Stop { at });
     }
-    Cursor {
-        at: at + 1,
+    Ok(Field {
         value: d,
-        stopped: false,
-    }
+        at: at + 1,
+    })
 }

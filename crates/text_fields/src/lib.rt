@@ -1,4 +1,4 @@
-// A text's fields, one behind the other: each reader goes on from a cursor and stops at the first byte that its field
+// A text's fields, one behind the other: each reader goes on from a place and stops at the first byte that its field
 // cannot have.
 #![tactic(auto)]
 
@@ -7,91 +7,76 @@ mod hex;
 mod letter;
 mod number;
 
-ghost use Rattle.std.specs.Prelude.{true, ◌≡◌, ◌≤◌, ◌<◌, length};
+ghost use Rattle.std.specs.Prelude.{◌≡◌, ◌≤◌, ◌<◌, length, IfOk};
 ghost use Rattle.text_patterns.specs.Pattern.{lit, done};
 ghost use Rattle.text_patterns.specs.Fields.{one};
 ghost use Rattle.text_fields.specs.Digit.{decimal_value};
-ghost use Rattle.text_fields.specs.Field.{read_behind};
+ghost use Rattle.text_fields.specs.Field.{Read, Passed};
 
 use digit::decimal_value;
 pub use hex::read_hex;
 pub use letter::read_letter;
 pub use number::read_number;
 
-// How far a text is read: the last field's value, and the place behind it; or where the text leaves every valid one.
+// What is read at a place of a text: its value, and the place behind it.
 #[derive(Clone, Copy)]
-pub struct Cursor {
+pub struct Field<T> {
+    pub value: T,
     pub at: usize,
-    pub value: u64,
-    pub stopped: bool,
 }
 
-// The text cannot go on at a place.
-pub(crate) fn stop_at(at: usize) -> Cursor
-    ensures { result ≡ record { at = at; value = 0; stopped = true } }
-{
-    Cursor {
-        at,
-        value: 0,
-        stopped: true,
-    }
+// The place where a text leaves every valid one.
+#[derive(Clone, Copy)]
+pub struct Stop {
+    pub at: usize,
 }
+
+// stays: text and place are two parameters: one value of both must promise at each field that its text is the same.
 
 // Fixed bytes, and the value that they stand for.
-pub fn read_name(text: &[u8], from: Cursor, word: &[u8], value: u64) -> Cursor
-    requires { from.at ≤ length text.now }
-    ensures { (result ≡ read_behind (lit word.now (done value)) text.now from) × (result.at ≤ length text.now) }
+pub fn read_name(text: &[u8], at: usize, word: &[u8], value: u64) -> Result<Field<u64>, Stop>
+    requires { at ≤ length text.now }
+    ensures { Read (lit word.now (done value)) text.now at result }
 {
-    let at = from.at;
-    if from.stopped {
-        return stop_at(at);
-    }
-    let mut i = at;
-    let mut j = 0;
-    while j < word.len() {
-        if text.len() <= i {
-            return stop_at(i);
+    for j in 0..word.len() {
+        let i = at + j;
+        if text.len() <= i || word[j] != text[i] {
+            return Err(Stop { at: i });
         }
-        if word[j] != text[i] {
-            return stop_at(i);
-        }
-        i += 1;
-        j += 1;
     }
-    Cursor {
-        at: i,
+    Ok(Field {
         value,
-        stopped: false,
-    }
+        at: at + word.len(),
+    })
 }
 
-// Fixed bytes; their value is 0.
-pub fn read_literal(text: &[u8], from: Cursor, word: &[u8]) -> Cursor
-    requires { from.at ≤ length text.now }
-    ensures { (result ≡ read_behind (lit word.now (done 0)) text.now from) × (result.at ≤ length text.now) }
+// Fixed bytes: the place behind them.
+pub fn read_literal(text: &[u8], at: usize, word: &[u8]) -> Result<usize, Stop>
+    requires { at ≤ length text.now }
+    ensures { Passed word.now text.now at result }
 {
-    read_name(text, from, word, 0)
+    let read = read_name(text, at, word, 0)?;
+    Ok(read.at)
 }
 
 // One decimal digit of a range.
-pub fn read_digit(text: &[u8], from: Cursor, low: u64, high: u64) -> Cursor
-    requires { (from.at ≤ length text.now) × (high < 10) }
-    ensures { (result ≡ read_behind (one decimal_value low high) text.now from) × (result.at ≤ length text.now) × (result.value ≤ high) }
+pub fn read_digit(text: &[u8], at: usize, low: u64, high: u64) -> Result<Field<u64>, Stop>
+    requires inside { at ≤ length text.now }
+    requires decimal { high < 10 }
+    ensures read { Read (one decimal_value low high) text.now at result }
+    ensures within { IfOk result (λ r. r.value ≤ high) }
 {
-    let at = from.at;
-    if from.stopped {
-        return stop_at(at);
-    }
     if text.len() <= at {
-        return stop_at(at);
+        return Err(Stop { at });
     }
-    let d = decimal_value(text[at]);
+    let Some(d) = decimal_value(text[at]) else {
+        return Err(Stop { at });
+    };
     if (d < low) | (high < d) {
-        return stop_at(at);
+        return Err(Stop { at });
     }
-    Cursor {
-        at: at + 1,
+    Ok(Field {
         value: d,
-        stopped: false,
-    }
+        at: at + 1,
+    })
 }

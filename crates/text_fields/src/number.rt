@@ -1,75 +1,57 @@
 // A number in decimal with no leading zero, and the byte that ends it.
-ghost use Rattle.std.specs.Prelude.{◌≡◌, ◌^◌, ◌≤◌, ◌<◌, length};
+ghost use Rattle.std.specs.Prelude.{◌≡◌, ◌^◌, ◌≤◌, ◌<◌, length, IfOk};
 ghost use Rattle.text_patterns.specs.Fields.{number};
 ghost use Rattle.text_fields.specs.Digit.{decimal_value, next_digit};
-ghost use Rattle.text_fields.specs.Field.{read_behind};
+ghost use Rattle.text_fields.specs.Field.{Read};
 
 use crate::digit::decimal_value;
-use crate::{Cursor, stop_at};
+use crate::{Field, Stop};
 
-// Whether a number goes on with a byte, ends with it, or cannot have it.
-#[derive(Drop)]
-pub enum Step {
-    On(u64),
-    End,
-    Stop,
-}
-
-// One byte on, behind the digits of x.
-fn next_digit(x: u64, high: u64, end: u8, byte: u8) -> Step
+// The digits of x and one more, where a byte may follow them.
+fn next_digit(x: u64, high: u64, byte: u8) -> Option<u64>
     requires { (x ≤ high) × (high < 2 ^ 60) }
-    ensures { result ≡ next_digit x high end byte }
+    ensures { result ≡ next_digit x high byte }
 {
-    if end == byte {
-        return Step::End;
-    }
-    let d = decimal_value(byte);
-    if d < 10 {
-        if 0 < x {
-            let y = 10 * x + d;
-            if y <= high {
-                return Step::On(y);
-            }
+    let d = decimal_value(byte)?;
+    if 0 < x {
+        let y = 10 * x + d;
+        if y <= high {
+            return Some(y);
         }
     }
-    Step::Stop
+    None
 }
 
 // A number from low, which is 0 or 1 and bounds its first digit, to high.
-pub fn read_number(text: &[u8], from: Cursor, low: u64, high: u64, end: u8) -> Cursor
-    requires { (from.at ≤ length text.now) × (low ≤ high) × (high < 2 ^ 60) }
-    ensures { (result ≡ read_behind (number decimal_value low high end) text.now from) × (result.at ≤ length text.now) × (result.value ≤ high) }
+pub fn read_number(text: &[u8], at: usize, low: u64, high: u64, end: u8) -> Result<Field<u64>, Stop>
+    requires inside { at ≤ length text.now }
+    requires ordered { low ≤ high }
+    requires small { high < 2 ^ 60 }
+    ensures read { Read (number decimal_value low high end) text.now at result }
+    ensures within { IfOk result (λ r. r.value ≤ high) }
 {
-    let at = from.at;
-    if from.stopped {
-        return stop_at(at);
-    }
     if text.len() <= at {
-        return stop_at(at);
+        return Err(Stop { at });
     }
-    let d = decimal_value(text[at]);
-    if (10 <= d) | (d < low) | (high < d) {
-        return stop_at(at);
+    let Some(d) = decimal_value(text[at]) else {
+        return Err(Stop { at });
+    };
+    if (d < low) | (high < d) {
+        return Err(Stop { at });
     }
     let mut x = d;
-    let mut i = at + 1;
-    while i < text.len() {
-        match next_digit(x, high, end, text[i]) {
-            Step::On(y) => {
-                x = y;
-            }
-            Step::End => {
-                return Cursor {
-                    at: i + 1,
-                    value: x,
-                    stopped: false,
-                };
-            }
-            Step::Stop => {
-                return stop_at(i);
-            }
+    for i in at + 1..text.len() {
+        let byte = text[i];
+        if byte == end {
+            return Ok(Field {
+                value: x,
+                at: i + 1,
+            });
         }
-        i += 1;
+        let Some(y) = next_digit(x, high, byte) else {
+            return Err(Stop { at: i });
+        };
+        x = y;
     }
-    stop_at(i)
+    Err(Stop { at: text.len() })
 }

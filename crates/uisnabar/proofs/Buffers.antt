@@ -8,9 +8,8 @@ use lib.Dec.{eqb}
 use lib.ListN.{length}
 use borrow.Author.Tests.{eq-eqb, ne_eqb}
 use Rattle.answer.specs.Verdicts.{accepted}
-use Rattle.answer.specs.declared.Answer.TheVariants.{Buffer}
-use Rattle.label.specs.declared.Reading.{Reading}
-use Rattle.label.specs.Reading.{Reads}
+use Rattle.answer.specs.Answers.{Buffer}
+use Rattle.label.specs.Reading.{Reading, Reads}
 use Rattle.reply.specs.Reply.{answer_bytes, verdict_of, returned, replied}
 use Rattle.uisnabar.specs.Calls.{recipe_words, both_fit, held, LabelCall}
 

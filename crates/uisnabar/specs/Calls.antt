@@ -1,15 +1,14 @@
 -- Document 01, "Draws, recipe, label", its last paragraph, and document 02, M-103: what judge and label reader
 -- return to C, and every byte they leave.
--- Declared in src/: Answer (answer); Recipe, Reading (label).
+-- Declared in src/: Recipe (label).
 use Rattle.std.specs.Prelude.{ℕ, ◌/◌, ◌%◌, ◌^◌, ◌≡◌, Bool, cond, ◌&&◌, List, [], ◌∷◌, eqb, length}
 use Rattle.rows.specs.Rows.{put_row}
 use Rattle.answer.specs.Verdicts.{accepted}
-use Rattle.answer.specs.declared.Answer.{Answer}
+use Rattle.answer.specs.Answers.{Answer}
 use Rattle.judge_spec.specs.Judged.{judge_of}
-use Rattle.answer.specs.declared.Answer.TheVariants.{Buffer}
+use Rattle.answer.specs.Answers.{Buffer}
 use Rattle.label.specs.declared.Recipe.{Recipe}
-use Rattle.label.specs.declared.Reading.{Reading}
-use Rattle.label.specs.Reading.{Reads}
+use Rattle.label.specs.Reading.{Reading, Reads}
 use Rattle.reply.specs.Reply.{answer_bytes, verdict_of, answer_words}
 
 -- the judge's answer to what a call hands in

@@ -11,20 +11,19 @@ mod two_buffers;
 
 ghost use Rattle.std.specs.Prelude.{◌≡◌, length};
 ghost use Rattle.rows.specs.Rows.{put_row};
-ghost use Rattle.answer.specs.Verdicts.{accepted};
 ghost use Rattle.reply.specs.Reply.{returned, replied};
-ghost use Rattle.uisnabar.specs.Calls.{answer_to, recipe_words, held, LabelCall};
+ghost use Rattle.uisnabar.specs.Calls.{answer_to, recipe_words, LabelCall};
 
-use answer::{Answer, accepted};
+use answer::Refusal;
 pub use editions::uisnabar_translate;
 pub use forms::{uisnabar_count, uisnabar_report};
 use label::{Recipe, read_label};
 pub use listings::{uisnabar_list, uisnabar_read_listing};
 pub use ranges::uisnabar_ranges;
 use reply::{misfit, reply};
+use rows::put_words;
 pub use streams::{uisnabar_host, uisnabar_jump};
 pub use two_buffers::uisnabar_judge_split;
-use word::put_word;
 
 // The judge. ANSWER comes first, so nothing is judged for a caller who cannot be told.
 pub fn uisnabar_judge(
@@ -40,7 +39,7 @@ pub fn uisnabar_judge(
     ensures answer_after { answer.new ≡ replied (answer_to program.now memory.now pc fp exec.now ext.now) answer.old }
 {
     if answer.len() != 24 {
-        return reply(answer, Answer::Buffer);
+        return reply(answer, Err(Refusal::Buffer));
     }
     let a = judge::judge(program, memory, pc, fp, exec, ext);
     reply(answer, a)
@@ -51,36 +50,26 @@ fn recipe_bytes(recipe: &mut [u8], r: Recipe)
     requires { length recipe.old ≡ 20 }
     ensures { recipe.new ≡ put_row recipe.old 20 (recipe_words r) }
 {
-    put_word(recipe, 0, (r.seed % 4294967296) as u32);
-    put_word(recipe, 4, (r.seed / 4294967296) as u32);
-    put_word(recipe, 8, r.m);
-    put_word(recipe, 12, r.n);
-    put_word(recipe, 16, r.version);
-}
-
-// The same, where the label was accepted.
-fn put_recipe(recipe: &mut [u8], a: Answer, r: Recipe)
-    requires { length recipe.old ≡ 20 }
-    ensures { recipe.new ≡ held (accepted a) 20 recipe.old (recipe_words r) }
-{
-    if accepted(a) {
-        recipe_bytes(recipe, r);
-    }
+    let low = (r.seed % 4294967296) as u32;
+    let high = (r.seed / 4294967296) as u32;
+    put_words(recipe, &[low, high, r.m, r.n, r.version]);
 }
 
 // The label reader. ANSWER is the answer before any other, for either buffer.
 pub fn uisnabar_label(text: &[u8], answer: &mut [u8], recipe: &mut [u8]) -> u32
     ensures { LabelCall text.now answer.old recipe.old answer.new recipe.new result }
 {
-    let reading = read_label(text);
     if answer.len() != 24 {
-        return reply(answer, Answer::Buffer);
+        return reply(answer, Err(Refusal::Buffer));
     }
     if recipe.len() != 20 {
         return misfit();
     }
-    let a = reading.answer;
-    let r = reading.recipe;
-    put_recipe(recipe, a, r);
-    reply(answer, a)
+    match read_label(text) {
+        Ok(r) => {
+            recipe_bytes(recipe, r);
+            reply(answer, Ok(()))
+        }
+        Err(refusal) => reply(answer, Err(refusal)),
+    }
 }

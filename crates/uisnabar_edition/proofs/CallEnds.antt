@@ -5,8 +5,7 @@ use mathlib.Core.List.{List}
 use Prim.Native.Nat.{ℕ}
 use lib.ListN.{length}
 use borrow.Author.Tests.{eq-eqb, ne_eqb}
-use Rattle.answer.specs.declared.Answer.{Answer}
-use Rattle.answer.specs.declared.Answer.TheVariants.{Buffer}
+use Rattle.answer.specs.Answers.{Answer, Buffer}
 use Rattle.reply.specs.Reply.{answer_bytes, returned, replied}
 use Rattle.reply.proofs.Unfit.{same_returned, same_replied}
 use Rattle.edition_spec.specs.Translated.{program_left}

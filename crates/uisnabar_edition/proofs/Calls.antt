@@ -10,7 +10,7 @@ use lib.Dec.{eqb}
 use lib.ListN.{length}
 use borrow.Author.Tests.{ne_eqb}
 use Rattle.word.proofs.Tests.{cases}
-use Rattle.answer.specs.declared.Answer.TheVariants.{Accepted}
+use Rattle.answer.specs.Answers.{Accepted}
 use Rattle.answer.proofs.Named.{verdict_zero}
 use Rattle.reply.specs.Reply.{answer_bytes, verdict_of, returned}
 use Rattle.edition_spec.specs.Translated.{program_left}

@@ -1,8 +1,7 @@
 -- Document 02, M-102, for C: what a call that translates returns, and every byte it leaves. ANSWER comes first, and
 -- writes nothing.
--- Declared in src/: Answer (answer).
 use Rattle.std.specs.Prelude.{ℕ, cond, List, eqb, length}
-use Rattle.answer.specs.declared.Answer.{Answer}
+use Rattle.answer.specs.Answers.{Answer}
 use Rattle.reply.specs.Reply.{answer_bytes, returned, replied}
 use Rattle.edition_spec.specs.Translated.{translate_answer, program_left}
 

@@ -4,7 +4,7 @@
 ghost use Rattle.std.specs.Prelude.{◌≡◌};
 ghost use Rattle.uisnabar_edition.specs.TranslateCall.{translate_returned, translate_program_left, translate_answer_left};
 
-use answer::Answer;
+use answer::Refusal;
 use edition::translate;
 use reply::reply;
 
@@ -15,7 +15,7 @@ pub fn translate_call(old: &[u8], program: &mut [u8], answer: &mut [u8]) -> u32
     ensures answer_after { answer.new ≡ translate_answer_left old.now program.old answer.old }
 {
     if answer.len() != 24 {
-        return reply(answer, Answer::Buffer);
+        return reply(answer, Err(Refusal::Buffer));
     }
     let a = translate(old, program);
     reply(answer, a)

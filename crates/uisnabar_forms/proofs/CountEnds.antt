@@ -9,8 +9,7 @@ use lib.ListN.{length}
 use borrow.Author.Tests.{eqb-true}
 use Rattle.word.proofs.Tests.{each}
 use Rattle.answer.specs.Verdicts.{accepted}
-use Rattle.answer.specs.declared.Answer.{Answer}
-use Rattle.answer.specs.declared.Answer.TheVariants.{Buffer}
+use Rattle.answer.specs.Answers.{Answer, Buffer}
 use Rattle.rules.specs.Sizes.{Parts}
 use Rattle.reply.specs.Reply.{answer_bytes, verdict_of, returned, replied}
 use Rattle.grid_spec.specs.Grid.{count_answer, count_grid}

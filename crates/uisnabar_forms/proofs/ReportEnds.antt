@@ -8,8 +8,7 @@ use lib.Dec.{eqb}
 use lib.ListN.{length}
 use borrow.Author.Tests.{eqb-true}
 use Rattle.word.proofs.Tests.{each}
-use Rattle.answer.specs.declared.Answer.{Answer}
-use Rattle.answer.specs.declared.Answer.TheVariants.{Buffer}
+use Rattle.answer.specs.Answers.{Answer, Buffer}
 use Rattle.long.specs.Long.{long_bytes}
 use Rattle.reply.specs.Reply.{answer_bytes, verdict_of, replied}
 use Rattle.grid_spec.specs.Report.{report_answer, report_length, reported_in}

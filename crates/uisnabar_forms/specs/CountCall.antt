@@ -1,11 +1,9 @@
 -- Document 02, M-100, for C: what a call that counts returns, and every byte it leaves. ANSWER comes first, for either
 -- buffer of fixed length, and writes nothing.
--- Declared in src/: Answer (answer).
 use Rattle.std.specs.Prelude.{ℕ, Bool, cond, ◌&&◌, List, eqb, length}
 use Rattle.rows.specs.Rows.{put_row}
 use Rattle.answer.specs.Verdicts.{accepted}
-use Rattle.answer.specs.declared.Answer.{Answer}
-use Rattle.answer.specs.declared.Answer.TheVariants.{Buffer}
+use Rattle.answer.specs.Answers.{Answer, Buffer}
 use Rattle.rules.specs.Sizes.{Parts}
 use Rattle.reply.specs.Reply.{answer_bytes, verdict_of, answer_words}
 use Rattle.grid_spec.specs.Grid.{count_answer, count_grid}

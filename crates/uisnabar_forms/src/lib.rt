@@ -13,7 +13,7 @@ use answer::{Answer, accepted};
 use grid::count;
 use grid_bytes::{read_grid, write_grid};
 use grid_report::report;
-use reply::{misfit, reply, tell};
+use reply::{misfit, reply, tell_number};
 
 // Whether the buffers of fixed length have it.
 fn count_fits(grid: usize, answer: usize) -> bool
@@ -56,10 +56,9 @@ pub fn count_call(
     if !count_fits(grid.len(), answer.len()) {
         return misfit();
     }
-    let counted = count(read_grid(grid), program, memory, pc, fp, exec, ext);
-    let a = counted.answer;
-    let after = counted.grid;
-    put_counted(grid, a, after);
+    let mut counts = read_grid(grid);
+    let a = count(&mut counts, program, memory, pc, fp, exec, ext);
+    put_counted(grid, a, counts);
     reply(answer, a)
 }
 
@@ -73,7 +72,6 @@ pub fn report_call(grid: &[u8], text: &mut [u8], written: &mut [u8], answer: &mu
     if !report_fits(grid.len(), written.len(), answer.len()) {
         return misfit();
     }
-    let reported = report(read_grid(grid), text);
-    let a = reported.answer;
-    tell(a, reported.length, written, answer)
+    let reported = report(&read_grid(grid), text);
+    tell_number(reported, written, answer)
 }

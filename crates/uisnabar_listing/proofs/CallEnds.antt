@@ -4,12 +4,12 @@ use Prim.Native.Nat.{ℕ}
 use mathlib.Core.Bool.{false}
 use mathlib.Core.List.{List}
 use mathlib.Core.Path.{◌≡◌, refl, sym, ap, ◌∙◌}
-use Rattle.answer.specs.declared.Answer.TheVariants.{Buffer}
+use Rattle.answer.specs.Answers.{Buffer}
 use Rattle.text_patterns.specs.Pattern.{parse}
 use Rattle.reply.specs.Reply.{verdict_of}
 use Rattle.listing_spec.specs.Writing.{listed, listed_in}
 use Rattle.listing_spec.specs.Reading.{Sense, assembled, assembled_in, Assembles}
-use Rattle.listing_spec.specs.declared.Transcribed.{Transcribed}
+use Rattle.listing_spec.specs.Writing.{Transcribed}
 use Rattle.listing_line.specs.Line.{listing_lines}
 use Rattle.listing_law.proofs.Senses.{sense_of, means, means_one}
 use Rattle.reply.specs.Told.{told_fits, told_returned, told_number, told_answer, told_buffer}

@@ -7,7 +7,7 @@ ghost use Rattle.uisnabar_listing.specs.ReadListingCall.{ReadListingCall};
 
 use listing_reader::read_listing;
 use listing_writer::list;
-use reply::{misfit, tell, told_fits};
+use reply::{misfit, tell_number, told_fits};
 
 // A program's listing. ANSWER comes first, so nothing is listed for a caller who cannot be told.
 pub fn list_call(program: &[u8], text: &mut [u8], written: &mut [u8], answer: &mut [u8]) -> u32
@@ -20,8 +20,7 @@ pub fn list_call(program: &[u8], text: &mut [u8], written: &mut [u8], answer: &m
         return misfit();
     }
     let listed = list(program, text);
-    let a = listed.answer;
-    tell(a, listed.written, written, answer)
+    tell_number(listed, written, answer)
 }
 
 // A listing's program. ANSWER comes first.
@@ -38,6 +37,5 @@ pub fn read_listing_call(
         return misfit();
     }
     let done = read_listing(text, program);
-    let a = done.answer;
-    tell(a, done.written, written, answer)
+    tell_number(done, written, answer)
 }

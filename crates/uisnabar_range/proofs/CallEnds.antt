@@ -4,7 +4,7 @@ use Prim.Native.Nat.{ℕ}
 use mathlib.Core.List.{List}
 use mathlib.Core.Path.{◌≡◌, ap, ◌∙◌}
 use lib.ListN.{length}
-use Rattle.answer.specs.declared.Answer.{Answer}
+use Rattle.answer.specs.Answers.{Answer}
 use Rattle.rules.specs.Sizes.{Parts}
 use Rattle.reply.specs.Told.{told_returned, told_number, told_answer, told_buffer}
 use Rattle.reply.proofs.Telling.{Told}

@@ -6,7 +6,7 @@ ghost use Rattle.rules.specs.Sizes.{parts_of};
 ghost use Rattle.uisnabar_range.specs.RangesCall.{ranges_returned, ranges_finds_left, ranges_found_left, ranges_answer_left};
 
 use range::find_ranges;
-use reply::{misfit, tell, told_fits};
+use reply::{misfit, tell_number, told_fits};
 
 // The range checks of a table. ANSWER comes first, so nothing is judged for a caller who cannot be told.
 pub fn ranges_call(
@@ -29,6 +29,5 @@ pub fn ranges_call(
         return misfit();
     }
     let ranged = find_ranges(program, memory, pc, fp, exec, ext, finds);
-    let a = ranged.answer;
-    tell(a, ranged.found, found, answer)
+    tell_number(ranged, found, answer)
 }

@@ -6,7 +6,7 @@ ghost use Rattle.std.specs.Prelude.{◌≡◌};
 ghost use Rattle.reply.specs.Reply.{returned, replied};
 ghost use Rattle.split_spec.specs.Split.{split_parts_of, judge_split_of};
 
-use answer::Answer;
+use answer::Refusal;
 use reply::reply;
 use split::judge_split;
 
@@ -25,7 +25,7 @@ pub fn split_call<'a>(
     ensures answer_after { answer.new ≡ replied (judge_split_of (split_parts_of program.now public.now rest.now pc fp exec.now ext.now)) answer.old }
 {
     if answer.len() != 24 {
-        return reply(answer, Answer::Buffer);
+        return reply(answer, Err(Refusal::Buffer));
     }
     let a = judge_split(program, public, rest, pc, fp, exec, ext);
     reply(answer, a)

@@ -1,12 +1,10 @@
 -- Document 02, M-106, for C: a call that jumps and one that starts a host, and every byte they leave. `next` is 8
 -- bytes, and on a refused host the seed as it came.
--- Declared in src/: Answer (answer); Started (stream_spec).
 use Rattle.std.specs.Prelude.{ℕ, List}
-use Rattle.answer.specs.declared.Answer.TheVariants.{Accepted}
+use Rattle.answer.specs.Answers.{Accepted}
 use Rattle.reply.specs.Told.{told_returned, told_number, told_answer}
 use Rattle.stream_spec.specs.Stream.{after}
-use Rattle.stream_spec.specs.Host.{start_of}
-use Rattle.stream_spec.specs.declared.Started.{Started}
+use Rattle.stream_spec.specs.Host.{Started, start_of}
 
 module _ (next answer : List ℕ) where
   unfoldable pub jump_returned : ℕ

@@ -11,7 +11,6 @@ ghost use Rattle.uisnabar_stream.specs.StreamCalls.{
   host_answer_left,
 };
 
-use answer::Answer;
 use draw::Generator;
 use reply::{misfit, tell, told_fits};
 use stream::{jump, start};
@@ -26,7 +25,7 @@ pub fn jump_call(state: u64, draws: u64, next: &mut [u8], answer: &mut [u8]) -> 
         return misfit();
     }
     let jumped = jump(Generator::new(state), draws);
-    tell(Answer::Accepted, jumped.state, next, answer)
+    tell(Ok(()), jumped.state, next, answer)
 }
 
 // A host's start. ANSWER comes first; on HOST the seed is told as it came.
@@ -38,7 +37,7 @@ pub fn host_call(seed: u64, host: u64, next: &mut [u8], answer: &mut [u8]) -> u3
     if !told_fits(next.len(), answer.len()) {
         return misfit();
     }
-    let started = start(Generator::new(seed), host);
-    let a = started.answer;
-    tell(a, started.generator.state, next, answer)
+    let mut generator = Generator::new(seed);
+    let a = start(&mut generator, host);
+    tell(a, generator.state, next, answer)
 }

@@ -1,15 +1,14 @@
 -- Words in four bytes: what reading and writing one comes to, and that each undoes the other.
 -- Assumes nothing.
 use mathlib.Core.Path.{◌≡◌, sym, refl, ap, ◌∙◌}
-use mathlib.Core.List.{List, [], ◌∷◌, ◌++◌}
-use Prim.Native.Nat.{ℕ, ◌+◌, ◌<◌, ◌≤◌, ◌*◌, ◌%◌, ◌/◌, ◌^◌}
+use mathlib.Core.List.{List, [], ◌∷◌, ◌++◌, append_assoc}
+use Prim.Native.Nat.{ℕ, ◌+◌, ◌-◌, ◌<◌, ◌≤◌, ◌*◌, ◌%◌, ◌/◌, ◌^◌}
 use native.Mathlib.Nat.{add-zero}
 use native.Mathlib.Omega.{arith}
-use native.Mathlib.Numerals.{add-one, add-two, add-three}
-use lib.ListN.{length, get_or, take, drop, set, length-append, get_or-append, get_or-eq_default}
+use lib.ListN.{length, get_or, take, drop, length-append, get_or-append, get_or-eq_default}
 use lib.Pow.{shr-shr}
 use lib.Dec.{lit<}
-use lib.Seq.{sets-eq, length-take-le, get_or-append-add}
+use lib.Seq.{drop-drop, length-take-le, get_or-append-add}
 use borrow.Author.Tests.{le-leb, lt-leb}
 use Rattle.word.proofs.Lists.{◌∷≡◌}
 use Rattle.word.specs.Bytes.{word_at, bytes_of, with_word}
@@ -28,11 +27,13 @@ pub no_room : (s : List ℕ) (at x : ℕ) → length s < at + 4 → s ≡ with_w
 unfolding with_word
 no_room s at x h = rw (lt-leb (at + 4) (length s) h)
 
--- four stores are the four bytes between what was before and after them
+-- four bytes copied over those from a byte on
 pub room : (s : List ℕ) (at x : ℕ) → at + 4 ≤ length s
-    → set (set (set (set s at (x % 256)) (at + 1) (x / 256 % 256)) (at + 2) (x / 65536 % 256)) (at + 3) (x / 16777216 % 256) ≡ with_word s at x
+    → take at s ++ (bytes_of x ++ drop (at + 4 - at) (drop at s)) ≡ with_word s at x
 unfolding with_word
-room s at x h = rw (le-leb (at + 4) (length s) h, add-one at, add-two at, add-three at) (sets-eq (bytes_of x) s at h)
+room s at x h =
+    let e : at + (at + 4 - at) ≡ at + 4 = omega arith in
+    rw (le-leb (at + 4) (length s) h, drop-drop (at + 4 - at) at s, e) (sym (append_assoc (take at s) (bytes_of x) (drop (at + 4) s)))
 
 four_digits : (x : ℕ) → x < 2 ^ 32 → x % 256 + 256 * (x / 256 % 256) + 65536 * (x / 256 / 256 % 256) + 16777216 * (x / 256 / 256 / 256 % 256) ≡ x
 four_digits x h = omega arith

@@ -11,12 +11,6 @@ pub use bytes::{clear, put_word, word_at, word_inside};
 // 2^31 - 2^24 + 1
 pub const P: u64 = 2130706433;
 
-pub fn wide(x: u32) -> u64
-    ensures { (result ≡ x) × (result < 4294967296) }
-{
-    x as u64
-}
-
 pub fn reduced(x: u64) -> u32
     ensures { (result ≡ x % p) × (result < p) }
 {
@@ -31,7 +25,7 @@ pub fn add(x: u32, y: u32) -> u32
         let s = x + y;
         return if s < 2130706433 { s } else { s - 2130706433 };
     }
-    reduced(wide(x) + wide(y))
+    reduced(u64::from(x) + u64::from(y))
 }
 
 // 3p is above every y, so the difference stays above 0.
@@ -41,11 +35,11 @@ pub fn sub(x: u32, y: u32) -> u32
     if (x < 2130706433) & (y < 2130706433) {
         return if y <= x { x - y } else { x + (2130706433 - y) };
     }
-    reduced(wide(x) + 3 * P - wide(y))
+    reduced(u64::from(x) + 3 * P - u64::from(y))
 }
 
 pub fn mul(x: u32, y: u32) -> u32
     ensures { result ≡ x *ₚ y }
 {
-    reduced(wide(x) * wide(y))
+    reduced(u64::from(x) * u64::from(y))
 }

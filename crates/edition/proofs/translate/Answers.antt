@@ -1,8 +1,6 @@
 -- Each answer has its law; the lengths that fit bound each place.
-use borrow.Author.Rules.{rules}
-use borrow.Author.Tests.{not-true, not-false}
 use mathlib.Core.Bool.{true}
-use mathlib.Core.Path.{◌≡◌, sym, ◌∙◌}
+use mathlib.Core.Path.{◌≡◌, refl, sym, ◌∙◌}
 use Prim.Native.Nat.{◌*◌, ◌^◌, ◌≤◌}
 use native.Mathlib.Omega.{arith}
 use lib.ListN.{length}
@@ -28,18 +26,18 @@ returns-then-word-old c =
     let s = fits.args in
     word_above s.old.now s.program.now (fit) _ c.first_word-word.ensures c.if-word-old.true
 
-pub overflow_cast-result-then-at-old : goal.overflow_cast-result-then-at-old
-overflow_cast-result-then-at-old c =
+pub overflow_cast-result-in-Some : goal.overflow_cast-result-in-Some
+overflow_cast-result-in-Some c =
     let fit : lengths_fit (length c.args.old.now) (length c.args.program.now) ≡ true = sym c.lengths_fit.ensures ∙ c.if-not-lengths_fit.false in
     let high : length c.args.old.now ≤ 56 * 2 ^ 20 = (let s = c.args in old_high s.old.now s.program.now (fit)) in
     record { fits = omega (arith, high) }
 
-pub returns-then-at-old : goal.returns-then-at-old
-returns-then-at-old c =
+pub returns-in-Some : goal.returns-in-Some
+returns-in-Some c =
     let fit : lengths_fit (length c.args.old.now) (length c.args.program.now) ≡ true = sym c.lengths_fit.ensures ∙ c.if-not-lengths_fit.false in
     let fits = c in
     let s = fits.args in
-    untranslatable s.old.now s.program.now (fit) _ c.first_word-word.ensures c.if-word-old.false _ c.first_untranslatable-at.ensures c.if-at-old.true
+    untranslatable s.old.now s.program.now (fit) _ c.first_word-word.ensures c.if-word-old.false _ c.in-Some.ensures.0 c.in-Some.ensures.1
 
 pub put_all-requires : goal.put_all-requires
 put_all-requires c =
@@ -54,4 +52,4 @@ returns c =
     let c3 = c in
     let fits = c3 in
     let s = fits.args in
-    all_translated s.old.now s.program.now (fit) _ c3.first_word-word.ensures c3.if-word-old.false _ c3.first_untranslatable-at.ensures c3.if-at-old.false c.put_all.ensures
+    all_translated s.old.now s.program.now (fit) _ c3.first_word-word.ensures c3.if-word-old.false _ refl (omega (arith, c.in_default.ensures)) c.put_all.ensures

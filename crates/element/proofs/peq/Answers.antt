@@ -1,6 +1,5 @@
 -- `word::element::peq` meets its contract: two times the product, and 1, less both.
 -- Assumes nothing.
-use borrow.Author.Rules.{rules}
 use Rattle.element.proofs.DifferenceLaws.{peq_once}
 use Rattle.element.proofs.peq.Goals as goal
 

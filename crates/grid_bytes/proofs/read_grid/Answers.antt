@@ -1,13 +1,10 @@
 -- `grid_bytes::read_grid` meets its contract: the counters below k are read.
 use borrow.Author.Rules.{rules}
 use mathlib.Core.Path.{◌≡◌, sym, ◌∙◌}
-use mathlib.Core.List.{[], ◌∷◌}
-use Prim.Native.Nat.{◌*◌, ◌-◌, ◌≤◌}
 use native.Mathlib.Omega.{arith}
-use lib.ListN.{take, length, length-set}
+use lib.ListN.{length-set}
 use lib.Seq.{take_all}
 use Rattle.word.specs.Bytes.{concatenated}
-use Rattle.long.specs.Long.{long_at}
 use Rattle.grid_bytes.specs.GridBytes.{grid_of}
 use Rattle.grid_bytes.proofs.Steps.{read_next}
 use Rattle.grid_bytes.proofs.read_grid.Goals as goal
@@ -20,9 +17,8 @@ pub loop-k-preserved : goal.loop-k-preserved
 loop-k-preserved c =
     let l = c.loop-k in
     let bytes = c.args.bytes.now in (
-      search rules,
-      length-set l.grid l.k _ ∙ l.invariant.1,
-      rw c.long_inside.ensures (read_next bytes l.grid l.k (omega arith) l.invariant.2),
+      length-set l.grid l.k _ ∙ l.invariant.0,
+      rw c.long_inside.ensures (read_next bytes l.grid l.k (omega arith) l.invariant.1),
     )
 
 pub returns : goal.returns
@@ -30,4 +26,4 @@ unfolding grid_of
 returns c =
     let l = c.loop-k in
     let e : l.k ≡ 135 = omega arith in
-    sym (take_all 135 l.grid (omega arith)) ∙ rw e at l.invariant.2
+    sym (take_all 135 l.grid (omega arith)) ∙ rw e at l.invariant.1

@@ -1,9 +1,9 @@
 -- `grid_bytes::write_grid` meets its contract: the bytes of the counters below k are written.
 use borrow.Author.Rules.{rules}
 use mathlib.Core.Path.{◌≡◌, sym, ap, ◌∙◌}
-use Prim.Native.Nat.{◌+◌, ◌*◌, ◌-◌, ◌≤◌}
+use Prim.Native.Nat.{◌+◌, ◌*◌, ◌≤◌}
 use native.Mathlib.Omega.{arith}
-use lib.ListN.{take, length, get_or}
+use lib.ListN.{length, get_or}
 use lib.Seq.{take_all}
 use Rattle.word.specs.Bytes.{concatenated}
 use Rattle.long.specs.Long.{long_bytes}
@@ -21,9 +21,8 @@ loop-k-preserved c =
     let b = c in
     let put = c.put_long in
     let room : 8 * l.k + 8 ≤ length l.bytes = omega (arith, b.requires) in (
-      search rules,
-      ap length put.ensures ∙ put_length l.bytes (8 * l.k) _ room ∙ l.invariant.1,
-      rw put.ensures (write_next l.bytes b.args.grid l.k room l.invariant.2),
+      ap length put.ensures ∙ put_length l.bytes (8 * l.k) _ room ∙ l.invariant.0,
+      rw put.ensures (write_next l.bytes b.args.grid l.k room l.invariant.1),
     )
 
 pub returns : goal.returns
@@ -33,4 +32,4 @@ returns c =
     let b = c in
     let e : l.k ≡ 135 = omega arith in
     let whole : length l.bytes ≤ 8 * l.k = omega (arith, b.requires) in
-    sym (take_all (8 * l.k) l.bytes whole) ∙ l.invariant.2 ∙ ap (concatenated (λ j. long_bytes (get_or b.args.grid j 0))) e
+    sym (take_all (8 * l.k) l.bytes whole) ∙ l.invariant.1 ∙ ap (concatenated (λ j. long_bytes (get_or b.args.grid j 0))) e

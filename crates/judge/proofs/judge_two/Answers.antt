@@ -1,5 +1,4 @@
 -- The lowest part of bad length is named; lengths that fit are short, and the answer is that of the stages after.
-use borrow.Author.Rules.{rules}
 use mathlib.Core.Path.{◌≡◌, sym, ◌∙◌}
 use mathlib.Core.List.{◌++◌}
 use lib.ListN.{length, length-append}
@@ -25,16 +24,13 @@ returns-then-part-ne0 c =
     _
     (λ e. c.if-part-ne0.true (named ∙ e)))
 
-pub words_answer-requires : goal.words_answer-requires
-words_answer-requires c =
+pub invariant_of-parts-2 : goal.invariant_of-parts-2
+invariant_of-parts-2 c =
     let named : (let s = c.args in
     c.bad_part-part.result ≡ bad_part (length s.program.now) (length (s.public.now ++ s.rest.now)) (length s.exec.now) (length s.ext.now)) = (let s = c.args in
     rw (length-append s.public.now s.rest.now) c.bad_part-part.ensures) in
     let fit : (let s = c.args in
-    Fit (program_fits (length s.program.now)) (memory_fits (length (s.public.now ++ s.rest.now))) (exec_fits (length s.exec.now)) (ext_fits (length s.ext.now))) = all_fit _ _ _ _ (sym (named) ∙ c.if-part-ne0.false) in record {
-      seam_between = search rules;
-      fitting = fitting _ _ _ _ (fit).first (fit).second (fit).third (fit).fourth;
-    }
+    Fit (program_fits (length s.program.now)) (memory_fits (length (s.public.now ++ s.rest.now))) (exec_fits (length s.exec.now)) (ext_fits (length s.ext.now))) = all_fit _ _ _ _ (sym (named) ∙ c.if-part-ne0.false) in record { fitting = fitting _ _ _ _ (fit).first (fit).second (fit).third (fit).fourth }
 
 pub returns : goal.returns
 unfolding judge_of

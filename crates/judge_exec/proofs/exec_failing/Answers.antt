@@ -1,5 +1,4 @@
 -- Rule 1 is the test of pc; comparisons that say yes leave 0.
-use borrow.Author.Rules.{rules}
 use borrow.Author.Tests.{lt-ltb, le-ltb}
 use mathlib.Core.Path.{sym}
 use Rattle.rules.specs.Execution.{exec_rules}

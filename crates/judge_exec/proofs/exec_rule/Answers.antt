@@ -1,5 +1,4 @@
 -- Rule 1 is the test of pc.
-use borrow.Author.Rules.{rules}
 use borrow.Author.Tests.{lt-ltb, le-ltb}
 use Rattle.rules.specs.Execution.{exec_rules}
 use Rattle.judge_exec.proofs.exec_rule.Goals as goal

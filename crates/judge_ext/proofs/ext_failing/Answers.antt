@@ -1,7 +1,6 @@
 -- Comparisons that say yes leave rules 6 to 9; the groups that the code walks are the rules.
-use borrow.Author.Rules.{rules}
-use mathlib.Core.List.{◌++◌}
 use Rattle.rules.specs.Extension.{selected, comp_tail}
+use Rattle.judge_lookups.specs.Joined.{joined}
 use Rattle.judge_ext.proofs.AllRules.{its_pair, idle, compared}
 use Rattle.judge_ext.proofs.ext_failing.Goals as goal
 
@@ -14,8 +13,8 @@ returns-then-idle c =
     let args = row.args in
     let x = row.ext_inside-x.result in
     let y = paired.ext_inside-y.result in
-    let other = its_pair args.ext.now args.r paired.ext_inside-y.ensures paired.next_row.ensures.0 row.requires.n_value.0 in
-    compared args.ext.now args.r (args.public.now ++ args.rest.now)
+    let other = its_pair args.ext.now args.r paired.ext_inside-y.ensures paired.next_row.ensures.0 row.requires.0 in
+    compared args.ext.now args.r (joined args.memory)
     row.ext_inside-x.ensures
     other
     (held.others_hold.ensures told.if-others_hold.true)
@@ -28,8 +27,8 @@ returns-then-others_hold c =
     let paired = held in
     let row = paired in
     let args = row.args in
-    compared args.ext.now args.r (args.public.now ++ args.rest.now)
+    compared args.ext.now args.r (joined args.memory)
     row.ext_inside-x.ensures
-    (its_pair args.ext.now args.r paired.ext_inside-y.ensures paired.next_row.ensures.0 row.requires.n_value.0)
+    (its_pair args.ext.now args.r paired.ext_inside-y.ensures paired.next_row.ensures.0 row.requires.0)
     (held.others_hold.ensures told.if-others_hold.true)
     c.accumulates.ensures

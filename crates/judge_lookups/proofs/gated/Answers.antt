@@ -1,5 +1,4 @@
 -- A shut gate leaves 0, and so do equal words; else the product is the definition's.
-use borrow.Author.Rules.{rules}
 use Rattle.word.proofs.WordLaws.{product_zero, difference_self}
 use Rattle.judge_lookups.proofs.Quick.{shut}
 use Rattle.judge_lookups.proofs.gated.Goals as goal

@@ -1,16 +1,12 @@
 -- The walk stops at the first row that has a rule that fails; what the rows passed push is followed.
-use borrow.Author.Rules.{rules}
-use mathlib.Core.Path.{◌≡◌, refl, sym, ◌∙◌}
-use mathlib.Core.List.{[], ◌++◌}
-use Prim.Native.Nat.{◌-◌, ◌*◌, ◌/◌}
+use mathlib.Core.Path.{refl, sym, ap, ◌∙◌}
+use Prim.Native.Nat.{◌*◌}
 use native.Mathlib.Omega.{arith}
-use lib.ListN.{length}
-use Rattle.rules.specs.Sizes.{given, tables}
-use Rattle.judge_spec.specs.Judged.{exec_failing}
 use Rattle.inputs.proofs.Eights.{eight}
 use Rattle.bus_tuples.specs.Order.{pulled_by}
 use Rattle.bus_tuples.proofs.OrderLaws.{pulled_more}
-use Rattle.judge_walks.proofs.Rows.{At, at_first, row_passed, row_fails, rows_end, pc_inside}
+use Rattle.judge_lookups.specs.Joined.{joined}
+use Rattle.judge_walks.proofs.Rows.{stops_at, ends_at, at_first, row_passed, row_fails, rows_end, pc_inside}
 use Rattle.judge_walks.proofs.exec_walk.Goals as goal
 
 pub loop-r-init : goal.loop-r-init
@@ -19,17 +15,22 @@ loop-r-init c = (refl, at_first _ _ _ 8, refl)
 
 pub exec_failing-requires : goal.exec_failing-requires
 exec_failing-requires c = record {
-  seam_between = search rules;
   r_in_bounds = omega arith;
   x_value = (c.exec_inside-x.ensures, rw c.next_row.ensures.0 at c.exec_inside-y.ensures);
 }
 
 pub returns-then-exec_failing-ne0 : goal.returns-then-exec_failing-ne0
 returns-then-exec_failing-ne0 c =
-    let tried = c in
-    let loop = tried.loop-r in
-    let same = c.exec_rule.ensures ∙ sym tried.exec_failing.ensures in
-    (rw same (row_fails _ _ _ 8 loop.invariant.1 tried.exec_failing.result (omega arith) tried.exec_failing.ensures c.if-exec_failing-ne0.true), loop.invariant.2)
+    let loop = c.loop-r in
+    let s = c.args in
+    let same = c.exec_rule-rule.ensures ∙ sym c.exec_failing.ensures in
+    let here = c.exec_failing.result in
+    let told = c.exec_failing.ensures in
+    let bad = c.if-exec_failing-ne0.true in
+    record {
+      tested = rw same (row_fails _ _ _ 8 loop.invariant.1 here (omega arith) told bad);
+      pulled = loop.invariant.2 ∙ ap (pulled_by s.program.now s.exec.now s.ext.now) (stops_at _ _ _ 8 loop.invariant.1 here (omega arith) told bad);
+    }
 
 pub overflow_mul-r-in-loop-r : goal.overflow_mul-r-in-loop-r
 overflow_mul-r-in-loop-r c =
@@ -42,14 +43,8 @@ instruction_inside-i-requires c =
     let passed = c in
     let start = passed in
     let row = passed.exec_inside-x in
-    let inside = pc_inside start.args.program.now (start.args.public.now ++ start.args.rest.now) _ _ _ (sym passed.exec_failing.ensures ∙ passed.if-exec_failing-ne0.false) in
+    let inside = pc_inside start.args.program.now (joined start.args.memory) _ _ _ (sym passed.exec_failing.ensures ∙ passed.if-exec_failing-ne0.false) in
     omega (arith, rw (← row.ensures) at inside)
-
-pub overflow_add-r : goal.overflow_add-r
-overflow_add-r c =
-    let inside = c.loop-r-test.true in
-    let args = c in
-    omega (arith, inside, args.well_formed)
 
 pub loop-r-preserved : goal.loop-r-preserved
 loop-r-preserved c =
@@ -68,4 +63,10 @@ loop-r-preserved c =
     )
 
 pub returns : goal.returns
-returns c = (rows_end _ _ _ 8 c.loop-r.invariant.1 c.loop-r-test.false (omega arith), c.loop-r.invariant.2)
+returns c =
+    let loop = c.loop-r in
+    let s = c.args in
+    record {
+      tested = rows_end _ _ _ 8 loop.invariant.1 c.loop-r-test.false (omega arith);
+      pulled = loop.invariant.2 ∙ ap (pulled_by s.program.now s.exec.now s.ext.now) (ends_at _ _ _ 8 loop.invariant.1 c.loop-r-test.false);
+    }

@@ -1,15 +1,12 @@
 -- The walk stops at the first row that has a rule that fails.
-use borrow.Author.Rules.{rules}
-use mathlib.Core.Path.{◌≡◌, refl, sym, ◌∙◌}
-use mathlib.Core.List.{List, [], ◌++◌}
-use Prim.Native.Nat.{ℕ, ◌+◌, ◌-◌, ◌*◌, ◌/◌}
+use mathlib.Core.Path.{refl, sym, ◌∙◌}
+use mathlib.Core.List.{List}
+use Prim.Native.Nat.{ℕ, ◌+◌, ◌*◌}
 use native.Mathlib.Omega.{arith}
-use lib.ListN.{length}
-use Rattle.rules.specs.Sizes.{given, tables}
-use Rattle.judge_spec.specs.Judged.{is_word, ext_failing}
+use Rattle.judge_spec.specs.Judged.{is_word}
 use Rattle.inputs.proofs.Eights.{Tells, eight, eight_more}
 use Rattle.judge_walks.specs.Walks.{thirty_words}
-use Rattle.judge_walks.proofs.Rows.{At, at_first, row_passed, row_fails, rows_end}
+use Rattle.judge_walks.proofs.Rows.{at_first, row_passed, row_fails, rows_end}
 use Rattle.judge_walks.proofs.ext_walk.Goals as goal
 
 -- four eights cover the thirty words; the last begins two before the third's end
@@ -27,7 +24,7 @@ pub returns-then-ext_failing-ne0 : goal.returns-then-ext_failing-ne0
 returns-then-ext_failing-ne0 c =
     let tried = c in
     let loop = tried.loop-r in
-    let same = c.ext_rule.ensures ∙ sym tried.ext_failing.ensures in
+    let same = c.ext_rule-rule.ensures ∙ sym tried.ext_failing.ensures in
     rw same (row_fails _ _ _ 30 loop.invariant.1 tried.ext_failing.result (omega arith) tried.ext_failing.ensures c.if-ext_failing-ne0.true)
 
 pub loop-r-preserved : goal.loop-r-preserved

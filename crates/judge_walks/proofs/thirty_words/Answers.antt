@@ -1,5 +1,4 @@
 -- Each eight as `eight_words` promises.
-use borrow.Author.Rules.{rules}
 use Rattle.judge_walks.proofs.thirty_words.Goals as goal
 
 pub returns : goal.returns

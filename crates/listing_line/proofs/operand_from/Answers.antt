@@ -1,4 +1,3 @@
-use borrow.Author.Rules.{rules}
 use Rattle.listing_line.proofs.operand_from.Goals as goal
 
 pub returns : goal.returns

@@ -1,7 +1,6 @@
 -- 4 * 2^m is far below 2^64, so the shift loses nothing.
 use native.Mathlib.Nat.{mod-eq_of_lt, pow-le-pow_right}
 use native.Mathlib.Omega.{arith}
-use borrow.Author.Rules.{rules}
 use lib.Dec.{lit<}
 use Rattle.maker.proofs.memory_size.Goals as goal
 

@@ -1,37 +1,35 @@
--- The invariant: the state is the one after k cells, and the first k cells are those drawn. The measure is what is left
--- of the 32.
-use mathlib.Core.Path.{◌≡◌, sym, ◌∙◌}
-use Prim.Native.Nat.{◌-◌, ◌%◌, ◌≤◌}
+-- The invariant: the state is the one after k cells, and the first k cells are those drawn.
+use mathlib.Core.Path.{◌≡◌, refl, sym, ◌∙◌}
+use Prim.Native.Nat.{◌%◌}
 use native.Mathlib.Omega.{arith}
-use borrow.Author.Rules.{rules}
-use lib.ListN.{length, length-set, take}
+use lib.ListN.{length-set}
 use lib.Seq.{take_all}
 use Rattle.word.specs.Word.{p}
 use Rattle.word.specs.Bytes.{concatenated}
-use Rattle.maker_draws.specs.Drawn.{after_cells, draws_of, cells_drawn}
+use Rattle.maker_draws.specs.Drawn.{after_cells, draws_of}
 use Rattle.maker_draws.proofs.Cells.{after_cell_lem, cell_drawn, stored}
 use Rattle.maker_draws.proofs.begin.Goals as goal
 
 pub loop-k-init : goal.loop-k-init
 unfolding after_cells concatenated
-loop-k-init c = search rules
+loop-k-init c = record { long = refl; state = refl; cells = refl }
 
 pub loop-k-preserved : goal.loop-k-preserved
 loop-k-preserved c =
     let l = c.loop-k in
-    let a = c.args in
-    let d = c.draw_cell-drawn.ensures in
-    let e : c.draw_cell-drawn.result.number % p ≡ (draws_of a.version a.seed).cell l.k = rw (d.0, l.invariant.2) (cell_drawn a.version a.seed l.k) in (
-      omega arith,
-      simp length-set l.invariant.1,
-      rw (d.1, l.invariant.2) (sym (after_cell_lem a.version a.seed l.k)),
-      rw e (stored a.version a.seed l.cells l.k (omega arith) l.invariant.3),
-    )
+    let version = c.args.version in
+    let seed = c.args.generator.now.state in
+    let d = c.draw_cell.ensures in
+    let e : c.draw_cell.result % p ≡ (draws_of version seed).cell l.k = rw (d.0, l.invariant.state) (cell_drawn version seed l.k) in
+    record {
+      long = simp length-set l.invariant.long;
+      state = rw (d.1, l.invariant.state) (sym (after_cell_lem version seed l.k));
+      cells = rw e (stored version seed l.cells l.k (omega (arith, c.loop-k-test.true, l.invariant.long)) l.invariant.cells);
+    }
 
 pub returns : goal.returns
 returns c =
     let l = c.loop-k in
     let e : l.k ≡ 32 = omega arith in
-    let all = sym (take_all 32 l.cells (omega arith)) ∙ (rw e at l.invariant.3) in
-    let next = rw e at l.invariant.2 in
-    λ x. record { cells = all x; next = record { state = next x } }
+    let next = rw e at l.invariant.state in
+    (sym (take_all 32 l.cells (omega (arith, l.invariant.long))) ∙ (rw e at l.invariant.cells), λ x. record { state = next x })

@@ -1,37 +1,26 @@
--- The invariant: what may still be drawn from the draw at hand ends where it would from the first. The measure is how
--- many may still be thrown away.
-use mathlib.Core.Path.{◌≡◌}
-use Prim.Native.Nat.{◌-◌, ◌/◌, ◌^◌, ◌≤◌}
-use native.Mathlib.Omega.{arith}
-use borrow.Author.Rules.{rules}
-use borrow.Author.Tests.{leb-true, leb-false}
-use Rattle.std.proofs.Common.{eq-eqb}
-use Rattle.std.proofs.lemmas.Bool.{ne_eqb}
-use Rattle.maker_draws.specs.Drawn.{again}
+-- The invariant: what may still be drawn ends where it would from the first draw.
+use mathlib.Core.Logic.{⊎_elim}
+use borrow.Author.Tests.{eq-eqb, ne_eqb}
 use Rattle.maker_draws.proofs.Again.{turn, full, plain, low}
 use Rattle.maker_draws.proofs.draw_cell.Goals as goal
 
-pub loop-thrown-init : goal.loop-thrown-init
-loop-thrown-init c = rw c.draw-drawn.ensures (search rules)
+pub returns-then-version-eq1 : goal.returns-then-version-eq1
+returns-then-version-eq1 c =
+    let l = c.loop-thrown in
+    let d = c.next_number-number.ensures in
+    rw d.1
+    (⊎_elim (λ e. plain _ _ _ _ _ d.0 l.invariant (eq-eqb c.args.version 1 e)) (λ h. low _ _ _ _ _ d.0 l.invariant h.1)
+    c.then-version-eq1.either)
 
 pub loop-thrown-preserved : goal.loop-thrown-preserved
 loop-thrown-preserved c =
     let l = c.loop-thrown in
-    let later = ne_eqb c.args.version 1 c.if-version-ne1.true in
-    let d = c.draw-drawn-in-loop-thrown.ensures in
-    (omega arith, rw d, rw d (turn _ _ _ _ _ l.invariant.1 l.invariant.2 (omega arith) later (omega (arith, leb-true))))
+    let d = c.next_number-number.ensures in
+    let later = ne_eqb c.args.version 1 c.if-version-eq1.false in
+    rw d.1 (turn _ _ _ _ _ d.0 l.invariant c.loop-thrown-test.true later c.if-number-lt-KEPT_BELOW.false)
 
-pub returns-else-drawn-ge-KEPT_BELOW : goal.returns-else-drawn-ge-KEPT_BELOW
-returns-else-drawn-ge-KEPT_BELOW c =
+pub returns : goal.returns
+returns c =
     let l = c.loop-thrown in
-    low _ _ _ _ _ l.invariant.1 (rw c.draw-drawn.ensures at l.invariant.2) (omega (arith, leb-false))
-
-pub returns-else-version-ne1 : goal.returns-else-version-ne1
-returns-else-version-ne1 c =
-    let l = c.loop-thrown in
-    plain _ _ _ _ _ l.invariant.1 (rw c.draw-drawn.ensures at l.invariant.2) (eq-eqb c.args.version 1 c.if-version-ne1.false)
-
-pub returns-after-loop-thrown : goal.returns-after-loop-thrown
-returns-after-loop-thrown c =
-    let l = c.loop-thrown in
-    full _ _ _ _ _ l.invariant.1 (rw c.draw-drawn.ensures at l.invariant.2) (omega arith)
+    let d = c.next_number.ensures in
+    rw d.1 (full _ _ _ _ _ d.0 l.invariant c.loop-thrown-test.false)

@@ -1,5 +1,4 @@
 -- By the promises of the maker and the tabler.
-use borrow.Author.Rules.{rules}
 use Rattle.program_build.proofs.Recipes.{built}
 use Rattle.program_build.proofs.build.Goals as goal
 

@@ -1,46 +1,69 @@
 -- `range::find_ranges` meets its contract: refused by the judge, without room, or written.
-use borrow.Author.Rules.{rules}
-use borrow.Author.Tests.{not-true, not-false}
-use mathlib.Core.Path.{sym, ◌∙◌}
-use Rattle.rules.specs.Sizes.{Parts, parts_of}
+use Rattle.std.proofs.Common.{arith, ◌≡◌, refl, sym, []}
+use Rattle.std.proofs.lemmas.Result.{err_from_is_err_and}
+use Rattle.answer.specs.Answers.{answer_of}
+use Rattle.answer.proofs.Named.{refusal_not_accepted}
+use Rattle.lines.proofs.Putting.{put_front}
+use Rattle.rules.specs.Sizes.{Parts, parts_of, given, tables}
+use Rattle.judge_spec.specs.Judged.{judge_of}
+use Rattle.range_finds.proofs.All.{finds_length}
 use Rattle.range.proofs.Ends.{refused, ready, short, room, written}
 use Rattle.range.proofs.find_ranges.Goals as goal
 
-pub returns-then-not-accepted : goal.returns-then-not-accepted
-returns-then-not-accepted c =
+pub returns-in_err-judge : goal.returns-in_err-judge
+returns-in_err-judge c =
     let s = c.args in
     let q : Parts = parts_of s.program.now s.memory.now s.pc s.fp s.exec.now s.ext.now in
-    refused q s.finds.now _ c.judge-answer.ensures (sym c.accepted.ensures ∙ c.if-not-accepted.true)
+    let p = err_from_is_err_and c.from_residual.result c.from_residual.ensures.1 in
+    let is : answer_of c.from_residual.result ≡ judge_of q = rw (p.1, p.2) c.in_err-judge.ensures in
+    let ends = refused q s.finds.now _ is (rw p.1 (refusal_not_accepted p.0)) in record {
+      value = ends.0;
+      found = rw p.1 ends.1;
+      finds_after = ends.2;
+    }
 
-pub count_finds-n-requires : goal.count_finds-n-requires
-count_finds-n-requires c =
+pub invariant_of-rows : goal.invariant_of-rows
+invariant_of-rows c =
     let s = c.args in
     let q : Parts = parts_of s.program.now s.memory.now s.pc s.fp s.exec.now s.ext.now in
-    ready q s.finds.now _ c.judge-answer.ensures (sym c.accepted.ensures ∙ c.if-not-accepted.false)
+    record { listed = (ready q s.finds.now _ c.in_ok-judge.ensures refl).listed }
+
+pub invariant_of-table : goal.invariant_of-table
+invariant_of-table c =
+    let s = c.args in
+    let q : Parts = parts_of s.program.now s.memory.now s.pc s.fp s.exec.now s.ext.now in
+    let known = ready q s.finds.now _ c.in_ok-judge.ensures refl in record {
+      short = known.short;
+      enough = known.rows;
+      bounds = known.bounds;
+    }
 
 pub returns-then-finds-n : goal.returns-then-finds-n
 returns-then-finds-n c =
     let s = c.args in
     let q : Parts = parts_of s.program.now s.memory.now s.pc s.fp s.exec.now s.ext.now in
-    short q s.finds.now _ c.judge-answer.ensures (sym c.accepted.ensures ∙ c.if-not-accepted.false)
-    _ c.count_finds-n.ensures.0 c.if-finds-n.true
+    let ends = short q s.finds.now _ c.in_ok-judge.ensures refl _ c.count_finds-n.ensures.0 c.if-finds-n.true in record {
+      value = ends.0;
+      found = ends.1;
+      finds_after = ends.2;
+    }
 
 pub put_finds-requires : goal.put_finds-requires
 put_finds-requires c =
     let s = c.args in
     let q : Parts = parts_of s.program.now s.memory.now s.pc s.fp s.exec.now s.ext.now in
-    let told = c.judge-answer.ensures in
-    let yes = sym c.accepted.ensures ∙ c.if-not-accepted.false in
     let counted = c.count_finds-n.ensures.0 in record {
-      walkable = ready q s.finds.now _ told yes;
       n_value = counted;
-      n_in_bounds = room q s.finds.now _ told yes _ counted c.if-finds-n.false;
+      room = omega (arith, room q s.finds.now _ c.in_ok-judge.ensures refl _ counted c.if-finds-n.false, counted, finds_length (given q.program []) (tables q.exec []));
     }
 
 pub returns : goal.returns
 returns c =
     let s = c.args in
     let q : Parts = parts_of s.program.now s.memory.now s.pc s.fp s.exec.now s.ext.now in
-    let told = c.judge-answer.ensures in
-    let yes = sym c.accepted.ensures ∙ c.if-not-accepted.false in
-    written q s.finds.now _ told yes _ c.count_finds-n.ensures.0 c.if-finds-n.false _ c.put_finds.ensures
+    let ends = written q s.finds.now _ c.in_ok-judge.ensures refl _ c.count_finds-n.ensures.0 c.if-finds-n.false _ (put_front refl c.put_finds.ensures) in
+    let same = sym c.put_finds.ensures.same in record {
+      value = ends.0;
+      found = ends.1;
+      finds_after = grind (arith, same, ends.2);
+    }

@@ -1,5 +1,5 @@
 -- `stream::jump` meets its contract: all bits of the number, from bit 0 on.
-use Rattle.std.proofs.Common.{ℕ, ap, ◌∙◌, mul-one, rules}
+use Rattle.std.proofs.Common.{ℕ, ap, ◌∙◌, mul-one}
 use Rattle.draw.specs.declared.Generator.{Generator}
 use Rattle.stream_spec.specs.Stream.{advances}
 use Rattle.stream.proofs.jump.Goals as goal

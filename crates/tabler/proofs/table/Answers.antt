@@ -1,5 +1,4 @@
 -- The lowest part of bad length is named; lengths that fit are in range, and the answer is that of the tests after.
-use borrow.Author.Rules.{rules}
 use mathlib.Core.Path.{refl, sym, ◌∙◌}
 use lib.ListN.{length}
 use Rattle.rules.specs.Sizes.{program_fits, memory_fits, exec_fits, ext_fits}

@@ -3,7 +3,6 @@ use mathlib.Core.Path.{refl}
 use Rattle.form.specs.declared.Kind.TheVariants.{Add, Mul, Deref, Jump}
 use Rattle.tabler_step.specs.Taken.{kind_bytes}
 use Rattle.tabler_step.proofs.Rooms.{no_bytes, no_group}
-use borrow.Author.Rules.{rules}
 use Rattle.tabler_step.proofs.perform.Goals as goal
 
 pub returns-in-Add : goal.returns-in-Add

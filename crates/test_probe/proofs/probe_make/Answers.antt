@@ -1,6 +1,5 @@
 -- What the maker gives is replied.
 use mathlib.Core.Path.{◌∙◌, ap}
-use borrow.Author.Rules.{rules}
 use Rattle.label.specs.declared.Recipe.{Recipe}
 use Rattle.maker_spec.specs.Bytes.{program_after, memory_after}
 use Rattle.test_probe.proofs.probe_make.Goals as goal

@@ -1,5 +1,4 @@
 -- What the tabler gives is replied.
-use borrow.Author.Rules.{rules}
 use Rattle.test_probe.proofs.probe_table.Goals as goal
 
 pub returns : goal.returns

@@ -1,7 +1,6 @@
 -- A buffer of another length hears of ANSWER alone; else the judge's answer is replied.
-use borrow.Author.Rules.{rules}
 use mathlib.Core.Path.{◌∙◌}
-use Rattle.answer.specs.declared.Answer.TheVariants.{Buffer}
+use Rattle.answer.specs.Answers.{Buffer}
 use Rattle.uisnabar.specs.Calls.{answer_to}
 use Rattle.reply.proofs.Unfit.{same_returned, same_replied}
 use Rattle.uisnabar.proofs.uisnabar_judge.Goals as goal

@@ -1,7 +1,7 @@
 -- A buffer of another length hears of ANSWER alone; else the judge's answer is replied.
 use borrow.Author.Rules.{rules}
 use mathlib.Core.Path.{◌∙◌}
-use Rattle.answer.specs.declared.Answer.TheVariants.{Buffer}
+use Rattle.answer.specs.Answers.{Buffer}
 use Rattle.reply.proofs.Unfit.{same_returned, same_replied}
 use Rattle.split_spec.specs.Split.{split_parts_of, judge_split_of}
 use Rattle.uisnabar_split.proofs.split_call.Goals as goal

@@ -28,9 +28,9 @@ unfolding host_returned host_next_left host_answer_left
 returns c =
     let s = c.args in
     let e = sym c.told_fits.ensures ∙ c.if-not-told_fits.false in
-    let led = rw c.new.ensures at c.start-started.ensures in
     let did = start_of (record { state = s.seed }) s.host in
-    let both = told s.next.now s.answer.now e did.answer did.generator.state _ _ _ (rw led at c.tell.ensures) in record {
+    let told_so = rw (c.start-a.ensures.value, c.start-a.ensures.generator_after, c.new-generator.ensures) at c.tell.ensures in
+    let both = told s.next.now s.answer.now e did.answer did.generator.state _ _ _ told_so in record {
       value = both.0;
       next_after = both.1.0;
       answer_after = both.1.1;

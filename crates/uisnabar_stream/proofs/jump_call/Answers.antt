@@ -2,7 +2,7 @@
 use mathlib.Core.Path.{sym, ◌∙◌}
 use borrow.Author.Rules.{rules}
 use borrow.Author.Tests.{not-true, not-false}
-use Rattle.answer.specs.declared.Answer.TheVariants.{Accepted}
+use Rattle.answer.specs.Answers.{Accepted}
 use Rattle.stream_spec.specs.Stream.{advances}
 use Rattle.reply.proofs.Telling.{untold, wholes, told}
 use Rattle.uisnabar_stream.specs.StreamCalls.{jump_returned, jump_next_left, jump_answer_left}

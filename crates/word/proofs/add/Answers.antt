@@ -1,6 +1,5 @@
 -- `word::add` meets its contract: a sum of words is below 2p; any other fits 64 bits, and is reduced.
 -- Assumes nothing.
-use borrow.Author.Rules.{rules}
 use native.Mathlib.Omega.{arith}
 use Rattle.word.specs.Word.{◌+ₚ◌}
 use Rattle.word.specs.Word.{p}

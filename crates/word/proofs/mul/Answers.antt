@@ -5,8 +5,8 @@ use Rattle.word.specs.Word.{◌*ₚ◌}
 use Rattle.word.proofs.Width.{below}
 use Rattle.word.proofs.mul.Goals as goal
 
-pub overflow_mul-wide : goal.overflow_mul-wide
-overflow_mul-wide c = record { fits = below 32 (search rules) (search rules) }
+pub overflow_mul-from : goal.overflow_mul-from
+overflow_mul-from c = record { fits = below 32 (search rules) (search rules) }
 
 pub returns : goal.returns
 unfolding ◌*ₚ◌

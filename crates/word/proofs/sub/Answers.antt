@@ -1,7 +1,6 @@
 -- `word::sub` meets its contract: a difference of words needs p at most once; else 3p keeps it above 0, and is a
 -- multiple of p.
 -- Assumes nothing.
-use borrow.Author.Rules.{rules}
 use native.Mathlib.Omega.{arith}
 use Rattle.word.specs.Word.{◌-ₚ◌}
 use Rattle.word.specs.Word.{p}

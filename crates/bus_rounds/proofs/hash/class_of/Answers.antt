@@ -1,6 +1,5 @@
 -- The definition's quotient and remainder.
 use Rattle.bus_rounds.specs.Slots.{class_of}
-use borrow.Author.Rules.{rules}
 use Rattle.bus_rounds.proofs.hash.class_of.Goals as goal
 
 pub returns : goal.returns

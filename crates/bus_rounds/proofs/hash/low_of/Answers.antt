@@ -1,8 +1,6 @@
 -- A tag times the span is a multiple of it, and less than all numbers by more than the span.
 use native.Mathlib.Omega.{arith}
 use mathlib.Core.Path.{◌≡◌}
-use mathlib.Core.Logic.{⊎_elim}
-use borrow.Author.Rules.{rules}
 use Rattle.bus_rounds.proofs.hash.low_of.Goals as goal
 
 pub returns-then-span-eq131072 : goal.returns-then-span-eq131072
@@ -12,5 +10,5 @@ returns-then-span-eq131072 c =
 
 pub returns : goal.returns
 returns c =
-    let here : c.args.span ≡ 2097152 = ⊎_elim (λ e. absurd (c.if-span-eq131072.false e)) (λ e. e) c.requires in
+    let here : c.args.span ≡ 2097152 = c.requires c.if-span-eq131072.false in
     record { whole = rw here (omega arith); fits = omega arith }

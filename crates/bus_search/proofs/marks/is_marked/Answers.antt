@@ -1,5 +1,4 @@
 -- The bit of the tuple's mark.
-use Rattle.std.proofs.Common.{rules}
 use Rattle.bus_search.specs.Marks.{is_marked}
 use Rattle.bus_search.proofs.marks.is_marked.Goals as goal
 

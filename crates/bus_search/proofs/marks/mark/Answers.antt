@@ -1,5 +1,5 @@
 -- The bit is set where it was not.
-use Rattle.std.proofs.Common.{◌≡◌, ℕ, ◌*◌, ◌%◌, ◌^◌, ◌<◌, sym, ◌∙◌, one-mul, arith, shl_exact, rules}
+use Rattle.std.proofs.Common.{◌≡◌, ℕ, ◌*◌, ◌%◌, ◌^◌, ◌<◌, sym, ◌∙◌, one-mul, arith, shl_exact}
 use Rattle.bus_search.specs.Marks.{with_mark}
 use Rattle.bus_search.proofs.marks.mark.Goals as goal
 
@@ -17,7 +17,6 @@ returns c =
     let m = c.mark_of-m in
     rw (
       sym unmarked.ensures ∙ c.if-is_marked.false,
-      c.wrapping_add_u64.ensures.value,
       one_bit (m.result % 64) (omega arith),
       m.ensures.0,
     )

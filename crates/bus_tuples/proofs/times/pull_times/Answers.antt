@@ -4,7 +4,6 @@ use native.Mathlib.Omega.{arith}
 use Rattle.rows.specs.Rows.{ext_at}
 use Rattle.bus_tuples.specs.Times.{pull_by}
 use Rattle.bus_tuples.proofs.TimesLaws.{all_bits, by_bits, by_other}
-use borrow.Author.Rules.{rules}
 use Rattle.bus_tuples.proofs.times.pull_times.Goals as goal
 
 pub returns-then-start-eq0 : goal.returns-then-start-eq0

@@ -1,17 +1,10 @@
 -- Each instruction passed is translatable, and the walk stops at the first that isn't.
-use borrow.Author.Rules.{rules}
-use borrow.Author.Tests.{not-true, not-false}
-use mathlib.Core.Path.{sym, ◌∙◌}
-use Prim.Native.Nat.{◌-◌, ◌*◌}
-use native.Mathlib.Omega.{arith}
+use Rattle.std.proofs.Common.{◌*◌}
 use Rattle.edition_machine.specs.Encoding.{encoded_at}
 use Rattle.edition_spec.specs.Translatable.{translatable}
 use Rattle.edition_spec.specs.Translated.{old_count, first_untranslatable}
-use Rattle.inputs.proofs.Walks.{Walk, begins, goes_past, finds, finds_none}
+use Rattle.inputs.proofs.Walks.{Walk}
 use Rattle.edition.proofs.walk.first_untranslatable.Given as goal
 
 abbrev pub invariant-loop-i : goal.invariant-loop-i
 invariant-loop-i l = Walk (λ j. translatable (encoded_at l.old (56 * j))) (old_count l.old) (first_untranslatable l.old) l.i
-
-abbrev pub decreases-loop-i : goal.decreases-loop-i
-decreases-loop-i l = l.n - l.i

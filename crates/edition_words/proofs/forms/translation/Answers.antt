@@ -1,5 +1,4 @@
 -- The test of DEREF picks the same instruction in `translated`.
-use borrow.Author.Rules.{rules}
 use borrow.Author.Tests.{ne_eqb}
 use Rattle.edition_spec.specs.Translation.{translated}
 use Rattle.edition_words.proofs.forms.translation.Goals as goal
@@ -8,6 +7,6 @@ pub returns-then-e-eq1 : goal.returns-then-e-eq1
 unfolding translated
 returns-then-e-eq1 c = rw (c.exchange.ensures, c.if-e-eq1.true)
 
-pub returns : goal.returns
+pub returns-else-e-eq1 : goal.returns-else-e-eq1
 unfolding translated
-returns c = rw (c.carry.ensures, ne_eqb _ _ c.if-e-eq1.false)
+returns-else-e-eq1 c = rw (c.carry.ensures, ne_eqb _ _ c.if-e-eq1.false)

@@ -1,6 +1,5 @@
 -- `element::fold::ended` meets its contract: word by word.
 -- Assumes nothing.
-use borrow.Author.Rules.{rules}
 use mathlib.Core.Path.{refl}
 use Rattle.word.proofs.Lists.{◌∷≡◌}
 use Rattle.word.specs.Element.{◌+ₑ◌, ◌·ₑ◌}

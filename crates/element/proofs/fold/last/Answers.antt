@@ -1,6 +1,5 @@
 -- `element::fold::last` meets its contract: with room the sum is the same modulo p.
 -- Assumes nothing.
-use borrow.Author.Rules.{rules}
 use Rattle.element.proofs.fold.last.Goals as goal
 
 pub returns : goal.returns

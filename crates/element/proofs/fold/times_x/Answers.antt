@@ -1,6 +1,5 @@
 -- `element::fold::times_x` meets its contract: word by word, by the promise of sub.
 -- Assumes nothing.
-use borrow.Author.Rules.{rules}
 use Rattle.element.specs.Sums.{times_x}
 use Rattle.element.proofs.fold.times_x.Goals as goal
 

@@ -1,6 +1,5 @@
 -- Each test is what its function promises, and together they are those by which an instruction is known to be
 -- well-formed.
-use borrow.Author.Rules.{rules}
 use Rattle.form.proofs.Forms.{form_tests}
 use Rattle.form.proofs.kinds.well_formed.Goals as goal
 
@@ -13,6 +12,6 @@ returns c =
       c4.is_mul.ensures,
       c4.is_deref.ensures,
       c.is_jump.ensures,
-      c.no_opcode.ensures,
+      c.opcode.ensures,
       c.is_data.ensures,
     ) (form_tests _)

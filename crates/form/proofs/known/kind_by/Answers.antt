@@ -1,5 +1,4 @@
 -- The tests that led to a return pick the same case of `kind_by`; e1 to e4 are the places where a test was false.
-use borrow.Author.Rules.{rules}
 use borrow.Author.Tests.{eq-eqb, ne_eqb}
 use Rattle.form.proofs.known.kind_by.Goals as goal
 

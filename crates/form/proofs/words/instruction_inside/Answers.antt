@@ -1,11 +1,4 @@
 -- Each word is the one that its call read.
-use borrow.Author.Rules.{rules}
-use Prim.Native.Nat.{ℕ, ◌+◌, ◌≤◌}
-use native.Mathlib.Omega.{arith}
-use lib.Dec.{lit≤}
-use lib.ListN.{length}
-use mir.Syntax.{w64}
-use mir.Val.{Fits}
 use Rattle.form.proofs.Part.{instruction_made_lem}
 use Rattle.form.proofs.words.instruction_inside.Goals as goal
 

@@ -2,12 +2,12 @@
 use borrow.Author.Rules.{rules}
 use mathlib.Core.Path.{◌≡◌, sym}
 use mathlib.Core.List.{[]}
-use Prim.Native.Nat.{◌-◌, ◌/◌, ◌≤◌}
+use Prim.Native.Nat.{◌/◌}
 use native.Mathlib.Omega.{arith}
 use lib.ListN.{length}
 use Rattle.rules.specs.Sizes.{given, tables}
 use Rattle.grid_spec.proofs.Counts.{is_counted}
-use Rattle.grid.proofs.RowForms.{CountedTo, room, counted_on}
+use Rattle.grid.proofs.RowForms.{room, counted_on}
 use Rattle.grid.proofs.counting.count_rows.Goals as goal
 
 pub loop-r-init : goal.loop-r-init
@@ -15,32 +15,31 @@ loop-r-init c = (omega arith, (search rules, λ k h. omega arith))
 
 pub add_rows-requires : goal.add_rows-requires
 add_rows-requires c =
-    let b = c in
+    let rows = c.args.rows.now in
     let l = c.loop-r in
     let end = c.same_to-end in
     let k = c.counter_at.ensures in (
       k.1,
       rw k.0
-          (room b.args.program.now b.args.exec.now l.r end.result end.ensures.0 end.ensures.2 b.args.grid l.counted l.invariant.1
-          (omega (arith, b.requires.exec_bound, end.ensures.1)) (rw (sym k.0) k.1)),
+          (room rows.program.now rows.exec.now l.r end.result end.ensures.0 end.ensures.2 c.args.grid.now l.grid l.invariant.1
+          (omega (arith, c.requires, end.ensures.1)) (rw (sym k.0) k.1)),
     )
 
 pub loop-r-preserved : goal.loop-r-preserved
 loop-r-preserved c =
-    let b = c in
+    let rows = c.args.rows.now in
     let l = c.loop-r in
     let end = c.same_to-end in
     let k = c.counter_at.ensures in (
       end.ensures.1,
       rw (c.add_rows.ensures, k.0)
-          (counted_on b.args.program.now b.args.exec.now l.r end.result end.ensures.0 end.ensures.2 b.args.grid l.counted
+          (counted_on rows.program.now rows.exec.now l.r end.result end.ensures.0 end.ensures.2 c.args.grid.now l.grid
           l.invariant.1 (rw (sym k.0) k.1)),
     )
 
 pub returns : goal.returns
 returns c =
-    let b = c in
+    let rows = c.args.rows.now in
     let l = c.loop-r in
-    let e : l.r ≡ length b.args.exec.now / 32 = omega arith in
-    is_counted (given b.args.program.now []) (tables b.args.exec.now []) b.args.grid l.counted l.invariant.1.0
-    (rw e at l.invariant.1.1)
+    let e : l.r ≡ length rows.exec.now / 32 = omega arith in
+    is_counted (given rows.program.now []) (tables rows.exec.now []) c.args.grid.now l.grid l.invariant.1.0 (rw e at l.invariant.1.1)

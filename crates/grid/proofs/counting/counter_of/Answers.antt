@@ -1,5 +1,4 @@
 -- `grid::counting::counter_of` meets its contract: the words of a well-formed instruction give its counter.
-use borrow.Author.Rules.{rules}
 use mathlib.Core.Path.{sym}
 use Rattle.grid.proofs.Words.{by_words}
 use Rattle.grid.proofs.counting.counter_of.Goals as goal

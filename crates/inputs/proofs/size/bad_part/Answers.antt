@@ -1,5 +1,4 @@
 -- Each test is the definition's.
-use borrow.Author.Rules.{rules}
 use Rattle.inputs.proofs.size.bad_part.Goals as goal
 
 pub returns : goal.returns

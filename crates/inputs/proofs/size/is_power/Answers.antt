@@ -1,32 +1,18 @@
--- What is left of the powers gives the whole answer.
-use borrow.Author.Rules.{rules}
-use mathlib.Core.Path.{◌≡◌, refl, sym, ◌∙◌}
-use Prim.Native.Nat.{◌≤◌}
-use native.Mathlib.Omega.{arith}
-use Rattle.rules.specs.Sizes.{is_power}
-use Rattle.inputs.proofs.Powers.{shifted, hit, miss, none}
+-- n is a power that was met, or none of them.
+use Rattle.std.proofs.Common.{◌≡◌, ◌^◌, ◌≤◌, sym, ◌∙◌, arith, below_more}
+use Rattle.inputs.proofs.Powers.{shifted, hit, none}
 use Rattle.inputs.proofs.size.is_power.Goals as goal
-
-pub loop-k-init : goal.loop-k-init
-loop-k-init c = (omega arith, refl)
 
 pub returns-then-n-k : goal.returns-then-n-k
 returns-then-n-k c =
-    let loop = c.loop-k in
-    let args = c.args in
-    hit args.n args.low loop.k c.loop-k-test.true (c.if-n-k.true ∙ shifted loop.k (omega arith)) ∙ sym loop.invariant.1
+    let k = c.loop-k.k in
+    hit c.args.n c.args.low c.args.high k (omega arith) (omega arith) (c.if-n-k.true ∙ shifted k (omega arith))
 
 pub loop-k-preserved : goal.loop-k-preserved
 loop-k-preserved c =
-    let loop = c.loop-k in
-    let args = c.args in (
-      omega arith,
-      loop.invariant.1
-          ∙ miss args.n args.low loop.k (omega arith) c.loop-k-test.true
-          (λ e. c.if-n-k.false (e ∙ sym (shifted loop.k (omega arith)))),
-    )
+    let k = c.loop-k.k in
+    below_more (λ j. c.args.low ≤ j → c.args.n ≡ 2 ^ j → ⊥) k c.loop-k.invariant
+    (λ least e. c.if-n-k.false (e ∙ sym (shifted k (omega arith))))
 
 pub returns : goal.returns
-returns c =
-    let args = c.args in
-    none args.n args.low c.loop-k.k c.loop-k-test.false ∙ sym c.loop-k.invariant.1
+returns c = none c.args.n c.args.low c.args.high (λ j least most. c.loop-k.invariant j (omega arith) least)

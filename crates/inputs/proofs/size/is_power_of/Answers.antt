@@ -1,5 +1,4 @@
 -- Both tests are the definition's.
-use borrow.Author.Rules.{rules}
 use Rattle.inputs.proofs.size.is_power_of.Goals as goal
 
 pub returns : goal.returns

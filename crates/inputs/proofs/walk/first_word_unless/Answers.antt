@@ -1,5 +1,4 @@
 -- Where it was seen that there is none, their number is the answer.
-use borrow.Author.Rules.{rules}
 use mathlib.Core.Path.{sym}
 use Rattle.inputs.proofs.walk.first_word_unless.Goals as goal
 

@@ -1,5 +1,4 @@
 -- The word read is the one tested.
-use borrow.Author.Rules.{rules}
 use Rattle.inputs.proofs.walk.is_word.Goals as goal
 
 pub returns : goal.returns

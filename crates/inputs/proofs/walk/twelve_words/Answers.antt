@@ -1,5 +1,4 @@
 -- Each of the two eights as `eight_words` promises.
-use borrow.Author.Rules.{rules}
 use Rattle.inputs.proofs.walk.twelve_words.Goals as goal
 
 pub returns : goal.returns

@@ -1,6 +1,4 @@
 -- Pushes and pulls that match, in order or in rounds, leave no tuple unequal.
-use borrow.Author.Rules.{rules}
-use borrow.Author.Tests.{not-false}
 use mathlib.Core.List.{[]}
 use mathlib.Core.Path.{◌≡◌, sym, ap, ◌∙◌}
 use Prim.Native.Nat.{◌/◌, ◌≤◌}

@@ -1,5 +1,4 @@
 -- JUMP 0 leaves 0.
-use borrow.Author.Rules.{rules}
 use Rattle.judge_lookups.proofs.Quick.{shut}
 use Rattle.judge_exec.proofs.exec_quick.jump_taken.Goals as goal
 

@@ -1,6 +1,4 @@
 -- Each lookup is passed.
-use borrow.Author.Rules.{rules}
-use borrow.Author.Tests.{not-false}
 use mathlib.Core.Path.{refl, sym, ◌∙◌}
 use Rattle.judge_lookups.proofs.Quick.{pass, never}
 use Rattle.judge_exec.proofs.exec_quick.lookups_hold.Goals as goal

@@ -1,5 +1,4 @@
 -- J is 0 or 1.
-use borrow.Author.Rules.{rules}
 use Rattle.judge_exec.proofs.QuickExec.{goes_on, jumps_to}
 use Rattle.judge_exec.proofs.exec_quick.moved.Goals as goal
 

@@ -1,5 +1,4 @@
 -- By AUX.
-use borrow.Author.Rules.{rules}
 use Rattle.judge_exec.proofs.QuickExec.{no_aux, adds, derefs}
 use Rattle.judge_exec.proofs.exec_quick.operated.Goals as goal
 

@@ -1,16 +1,15 @@
 -- AUX 0 and 1 are computed here; else each step is the definition's.
-use borrow.Author.Rules.{rules}
 use mathlib.Core.Path.{refl}
 use Rattle.word.specs.Word.{◌-ₚ◌, ◌*ₚ◌}
 use Rattle.judge_exec.proofs.execution.add_flag.Goals as goal
 
-pub returns-then-i-eq0 : goal.returns-then-i-eq0
+pub returns-in-0 : goal.returns-in-0
 unfolding ◌-ₚ◌ ◌*ₚ◌
-returns-then-i-eq0 c = rw c.if-i-eq0.true refl
+returns-in-0 c = rw c.in-0.is refl
 
-pub returns-then-i-eq1 : goal.returns-then-i-eq1
+pub returns-in-1 : goal.returns-in-1
 unfolding ◌-ₚ◌ ◌*ₚ◌
-returns-then-i-eq1 c = rw c.if-i-eq1.true refl
+returns-in-1 c = rw c.in-1.is refl
 
-pub returns : goal.returns
-returns c = rw (c.mul.ensures, c.sub.ensures)
+pub returns-in_default : goal.returns-in_default
+returns-in_default c = rw (c.mul.ensures, c.sub.ensures)

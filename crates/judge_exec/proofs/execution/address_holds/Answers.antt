@@ -1,4 +1,3 @@
-use borrow.Author.Rules.{rules}
 use Rattle.judge_exec.proofs.execution.address_holds.Goals as goal
 
 pub returns : goal.returns

@@ -1,5 +1,4 @@
 -- Each call gives the definition's part.
-use borrow.Author.Rules.{rules}
 use Rattle.judge_exec.proofs.execution.exec_computed.Goals as goal
 
 pub returns : goal.returns

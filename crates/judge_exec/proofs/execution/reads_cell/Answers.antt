@@ -1,6 +1,5 @@
 -- With both flags 0 the difference is 1; else each step is the definition's.
 use Rattle.word.specs.Word.{◌-ₚ◌}
-use borrow.Author.Rules.{rules}
 use Rattle.judge_exec.proofs.execution.reads_cell.Goals as goal
 
 pub returns-then-fp_flag-eq0 : goal.returns-then-fp_flag-eq0

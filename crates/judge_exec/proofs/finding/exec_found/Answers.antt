@@ -1,30 +1,23 @@
 -- By the rule's number.
-use borrow.Author.Rules.{rules}
 use borrow.Author.Tests.{ne_eqb}
-use mathlib.Core.Path.{sym}
+use native.Mathlib.Omega.{arith}
 use Rattle.rules.specs.Lookups.{found_under}
 use Rattle.judge_exec.proofs.finding.exec_found.Goals as goal
 
-pub returns-then-rule-eq2 : goal.returns-then-rule-eq2
+pub returns-in-2 : goal.returns-in-2
 unfolding found_under
-returns-then-rule-eq2 c = rw c.if-rule-eq2.true (rw c.exec_inside-x.ensures at c.found_one.ensures)
+returns-in-2 c = rw c.in-2.is (rw c.exec_inside-x.ensures at c.found_one.ensures)
 
-pub returns-then-rule-eq3 : goal.returns-then-rule-eq3
+pub returns-in-3 : goal.returns-in-3
 unfolding found_under
-returns-then-rule-eq3 c = rw c.if-rule-eq3.true (rw c.exec_inside-x.ensures at c.found_one-then-rule-eq3.ensures)
+returns-in-3 c = rw c.in-3.is (rw c.exec_inside-x.ensures at c.found_one-in-3.ensures)
 
-pub returns-then-rule-eq4 : goal.returns-then-rule-eq4
+pub returns-in-4 : goal.returns-in-4
 unfolding found_under
-returns-then-rule-eq4 c = rw c.if-rule-eq4.true (rw c.exec_inside-x.ensures at c.found_one-then-rule-eq4.ensures)
+returns-in-4 c = rw c.in-4.is (rw c.exec_inside-x.ensures at c.found_one-in-4.ensures)
 
-pub returns : goal.returns
+pub returns-in_default : goal.returns-in_default
 unfolding found_under
-returns c =
-    let else3 = c in
-    let rule = else3.args.rule in
-    rw (
-      ne_eqb 2 rule (λ e. else3.if-rule-eq2.false (sym e)),
-      ne_eqb 3 rule (λ e. else3.if-rule-eq3.false (sym e)),
-      ne_eqb 4 rule (λ e. else3.if-rule-eq4.false (sym e)),
-    )
+returns-in_default c =
+    rw (ne_eqb 2 c.args.rule (λ e. omega arith), ne_eqb 3 c.args.rule (λ e. omega arith), ne_eqb 4 c.args.rule (λ e. omega arith))
     c.nothing.ensures

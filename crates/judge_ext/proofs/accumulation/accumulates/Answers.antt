@@ -14,7 +14,7 @@ returns-then-x c =
     unoperated c.args.ext.now c.args.r c.args.after
     c.ext_inside-x.ensures
     c.gated_elements.ensures
-    c.first_of-last.ensures
+    c.first_failing-last.ensures
     (eqb-true _ _ off.0)
     (eqb-true _ _ off.1.0)
     (eqb-true _ _ off.1.1)
@@ -25,5 +25,5 @@ returns c =
     c.ext_inside-x.ensures
     (its_pair c.args.ext.now c.args.r c.ext_inside-y.ensures c.next_row.ensures.0 refl)
     c.gated_elements.ensures
-    c.first_of-last.ensures
+    c.first_failing-last.ensures
     c.operates.ensures

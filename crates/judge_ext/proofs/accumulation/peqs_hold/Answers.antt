@@ -1,5 +1,4 @@
 -- A flag of 0 leaves nothing of the element; else each step is the definition's.
-use borrow.Author.Rules.{rules}
 use Rattle.word.proofs.ElementLaws.{scale_zero}
 use Rattle.judge_ext.proofs.accumulation.peqs_hold.Goals as goal
 

@@ -5,7 +5,6 @@ use mathlib.Core.Path.{sym, ◌∙◌}
 use mathlib.Core.List.{[], ◌∷◌}
 use lib.Dec.{eqb, ltb}
 use Rattle.word.specs.Word.{p}
-use Rattle.word.proofs.ElementLaws.{its_words}
 use Rattle.word.proofs.Tests.{each}
 use Rattle.judge_ext.proofs.QuickExt.{own_words, base_word}
 use Rattle.judge_ext.proofs.accumulation.selected_element.Goals as goal
@@ -15,7 +14,7 @@ returns-then-x-is_element c =
     let x = c.args.x in
     let is-element = c.is_element in
     let t = each (eqb x.be 0) (is-element.result ∷ []) c.if-x-is_element.true in
-    its_words x.vA (search rules) ∙ own_words x (eqb-true x.be 0 t.0) (sym is-element.ensures ∙ t.1)
+    own_words x (eqb-true x.be 0 t.0) (search rules) (sym is-element.ensures ∙ t.1)
 
 pub returns-then-x : goal.returns-then-x
 returns-then-x c =

@@ -1,5 +1,4 @@
 -- Each rule inside a group compares two words.
-use borrow.Author.Rules.{rules}
 use Rattle.judge_ext.proofs.QuickExt.{continues}
 use Rattle.judge_ext.proofs.ext_quick.continued.Goals as goal
 

@@ -1,5 +1,4 @@
 -- By the next row's start.
-use borrow.Author.Rules.{rules}
 use borrow.Author.Tests.{eqb-true}
 use Rattle.judge_lookups.proofs.Quick.{never}
 use Rattle.judge_ext.proofs.QuickExt.{starts, goes_on}

@@ -1,9 +1,9 @@
 -- With nothing public the two joined are the second.
-use borrow.Author.Rules.{rules}
+use mathlib.Core.Path.{◌∙◌}
 use Rattle.judge_ext.proofs.QuickExt.{none_public}
 use Rattle.judge_ext.proofs.ext_quick.lookups_hold.Goals as goal
 
-pub returns-then-public-eq0 : goal.returns-then-public-eq0
-returns-then-public-eq0 c e after =
-    let args = c.args in
-    rw (none_public args.public.now args.rest.now c.if-public-eq0.true) at (c.whole_hold.ensures e after)
+pub returns-then-memory-eq0 : goal.returns-then-memory-eq0
+returns-then-memory-eq0 c e after =
+    let m = c.args.memory in
+    rw (c.whole.ensures ∙ none_public m.public.now m.rest.now c.if-memory-eq0.true) at (c.held.ensures e after)

@@ -1,6 +1,4 @@
 -- Each group is passed but the one of rules 6 to 9.
-use borrow.Author.Rules.{rules}
-use borrow.Author.Tests.{not-false}
 use mathlib.Core.Path.{◌∙◌}
 use Rattle.judge_lookups.proofs.Quick.{never}
 use Rattle.judge_ext.proofs.ext_quick.others_hold.Goals as goal

@@ -1,5 +1,4 @@
 -- be 0 and 1 are computed here; else each step is the definition's.
-use borrow.Author.Rules.{rules}
 use mathlib.Core.Path.{refl}
 use Rattle.word.specs.Word.{◌+ₚ◌, ◌-ₚ◌, ◌*ₚ◌}
 use Rattle.judge_ext.proofs.ext_quick.stride.Goals as goal

@@ -1,8 +1,7 @@
 -- The groups that the code walks are the rules; each call gives the definition's part.
-use borrow.Author.Rules.{rules}
 use mathlib.Core.Path.{refl, ◌∙◌}
-use mathlib.Core.List.{◌++◌}
 use Rattle.rules.specs.Extension.{selected, comp_tail}
+use Rattle.judge_lookups.specs.Joined.{joined}
 use Rattle.judge_ext.proofs.AllRules.{its_pair, idle, walked}
 use Rattle.judge_ext.proofs.extension.ext_rule.Goals as goal
 use Rattle.judge_ext.proofs.extension.ext_rule.Goals.{then-idle, else-idle}
@@ -19,7 +18,7 @@ returns c =
     let x = row.ext_inside-x.result in
     let y = paired.ext_inside-y.result in
     let other = its_pair args.ext.now args.r paired.ext_inside-y.ensures paired.next_row.ensures.0 refl in
-    walked args.ext.now args.r (args.public.now ++ args.rest.now)
+    walked args.ext.now args.r (joined args.memory)
     row.ext_inside-x.ensures
     other
     step.sub-inside.ensures

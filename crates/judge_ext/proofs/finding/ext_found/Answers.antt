@@ -1,35 +1,33 @@
 -- By the rule's number.
-use borrow.Author.Rules.{rules}
 use borrow.Author.Tests.{ne_eqb}
-use mathlib.Core.Path.{sym}
+use native.Mathlib.Omega.{arith}
 use Rattle.rules.specs.Lookups.{found_under}
 use Rattle.judge_ext.proofs.finding.ext_found.Goals as goal
 
-pub returns-then-rule-eq18 : goal.returns-then-rule-eq18
+pub returns-in-18 : goal.returns-in-18
 unfolding found_under
-returns-then-rule-eq18 c = rw c.if-rule-eq18.true (rw c.ext_inside-x.ensures at c.found_one.ensures)
+returns-in-18 c = rw c.in-18.is (rw c.ext_inside-x.ensures at c.found_one.ensures)
 
-pub returns-then-rule-eq19 : goal.returns-then-rule-eq19
+pub returns-in-19 : goal.returns-in-19
 unfolding found_under
-returns-then-rule-eq19 c = rw c.if-rule-eq19.true (rw c.ext_inside-x.ensures at c.found_five.ensures)
+returns-in-19 c = rw c.in-19.is (rw c.ext_inside-x.ensures at c.found_five.ensures)
 
-pub returns-then-rule-eq20 : goal.returns-then-rule-eq20
+pub returns-in-20 : goal.returns-in-20
 unfolding found_under
-returns-then-rule-eq20 c = rw c.if-rule-eq20.true (rw c.ext_inside-x.ensures at c.found_five-then-rule-eq20.ensures)
+returns-in-20 c = rw c.in-20.is (rw c.ext_inside-x.ensures at c.found_five-in-20.ensures)
 
-pub returns-then-rule-eq21 : goal.returns-then-rule-eq21
+pub returns-in-21 : goal.returns-in-21
 unfolding found_under
-returns-then-rule-eq21 c = rw c.if-rule-eq21.true (rw c.ext_inside-x.ensures at c.found_five-then-rule-eq21.ensures)
+returns-in-21 c = rw c.in-21.is (rw c.ext_inside-x.ensures at c.found_five-in-21.ensures)
 
-pub returns : goal.returns
+pub returns-in_default : goal.returns-in_default
 unfolding found_under
-returns c =
-    let else4 = c in
-    let rule = else4.args.rule in
+returns-in_default c =
+    let rule = c.args.rule in
     rw (
-      ne_eqb 18 rule (λ e. else4.if-rule-eq18.false (sym e)),
-      ne_eqb 19 rule (λ e. else4.if-rule-eq19.false (sym e)),
-      ne_eqb 20 rule (λ e. else4.if-rule-eq20.false (sym e)),
-      ne_eqb 21 rule (λ e. else4.if-rule-eq21.false (sym e)),
+      ne_eqb 18 rule (λ e. omega arith),
+      ne_eqb 19 rule (λ e. omega arith),
+      ne_eqb 20 rule (λ e. omega arith),
+      ne_eqb 21 rule (λ e. omega arith),
     )
     c.nothing.ensures

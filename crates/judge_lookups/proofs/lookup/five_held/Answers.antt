@@ -1,5 +1,4 @@
 -- Each word read is that of the part that was handed back.
-use borrow.Author.Rules.{rules}
 use borrow.Author.Tests.{le-leb, lt-leb}
 use lib.ListN.{length}
 use Rattle.judge_lookups.proofs.lookup.five_held.Goals as goal

@@ -1,12 +1,15 @@
 -- The letters are read behind the first.
-use mathlib.Core.Path.{sym, ◌∙◌}
-use borrow.Author.Rules.{rules}
-use Rattle.listing_line.proofs.ByFields.{mode_read}
+use Rattle.std.proofs.lemmas.Result.{err_from_is_err_and}
+use Rattle.listing_line.proofs.ByFields.{stop_mode, mode_read}
 use Rattle.listing_line.proofs.names.read_mode.Goals as goal
+
+pub returns-in_err-letter : goal.returns-in_err-letter
+returns-in_err-letter c =
+    let a = c.args in
+    let p = err_from_is_err_and c.from_residual.result c.from_residual.ensures.1 in
+    rw (p.1, p.2) (stop_mode a.text.now a.at a.range c.requires.1 c.requires.2 c.in_err-letter.ensures.read)
 
 pub returns : goal.returns
 returns c =
-    let s = c in
-    let l = c.read_letter-letter.ensures in
-    let r = c.rest_of_three.ensures in
-    (r.0 ∙ sym (mode_read s.args.text.now s.args.from _ s.args.range s.requires.0 s.requires.1 s.requires.2 l.0), r.1)
+    let a = c.args in
+    mode_read a.text.now a.at a.range c.requires.1 c.requires.2 c.in_ok-letter.ensures.read c.rest_of_three.result c.rest_of_three.ensures

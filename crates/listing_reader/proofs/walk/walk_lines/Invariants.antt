@@ -1,14 +1,11 @@
 -- The invariant: so many lines are read, up to a place, and the rest tells how the text ends. The measure is the lines
 -- that may still come.
-use Prim.Native.Nat.{◌-◌, ◌<◌, ◌≤◌}
-use mathlib.Core.List.{List, [], ◌∷◌, ◌++◌}
-use mathlib.Core.Path.{◌≡◌, refl, ◌∙◌}
-use native.Mathlib.Omega.{arith}
-use borrow.Author.Rules.{rules}
-use lib.ListN.{length, length-append}
+use Prim.Native.Nat.{◌-◌, ◌≤◌}
+use mathlib.Core.List.{List}
+use mathlib.Core.Path.{◌≡◌}
+use lib.ListN.{length}
 use Rattle.form.specs.declared.Form.{Form}
-use Rattle.listing_line.proofs.Known.{line_known}
-use Rattle.listing_reader.proofs.Ends.{Behind, begins, too_many, stops, goes, walked_out}
+use Rattle.listing_reader.proofs.Ends.{Behind}
 use Rattle.listing_reader.proofs.walk.walk_lines.Given as goal
 
 abbrev pub invariant-loop-at : goal.invariant-loop-at

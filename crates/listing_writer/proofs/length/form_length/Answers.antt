@@ -1,6 +1,5 @@
 -- The parts' lengths are added.
 use native.Mathlib.Omega.{arith}
-use borrow.Author.Rules.{rules}
 use Rattle.listing_writer.proofs.Lengths.{line_length}
 use Rattle.listing_writer.proofs.length.form_length.Goals as goal
 

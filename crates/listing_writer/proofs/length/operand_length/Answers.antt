@@ -1,6 +1,5 @@
 -- The mode's name and the digits.
 use native.Mathlib.Omega.{arith}
-use borrow.Author.Rules.{rules}
 use Rattle.listing_writer.proofs.length.operand_length.Goals as goal
 
 pub returns-in-Immediate : goal.returns-in-Immediate

@@ -1,5 +1,4 @@
 -- The one cell with be, and else the element that `element_at` gives.
-use borrow.Author.Rules.{rules}
 use Rattle.maker.proofs.elements.left_at.Goals as goal
 
 pub returns-then-be : goal.returns-then-be

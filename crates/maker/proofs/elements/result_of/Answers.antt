@@ -2,7 +2,6 @@
 use mathlib.Core.Path.{◌≡◌}
 use Prim.Native.Nat.{◌%◌}
 use native.Mathlib.Omega.{arith}
-use borrow.Author.Rules.{rules}
 use Rattle.maker.proofs.elements.result_of.Goals as goal
 
 pub returns-then-c-eq1 : goal.returns-then-c-eq1

@@ -1,5 +1,4 @@
 -- By the promises of the three calls.
-use borrow.Author.Rules.{rules}
 use Rattle.maker.proofs.elements.with_element.Goals as goal
 
 pub returns : goal.returns

@@ -1,7 +1,6 @@
 -- DATA of one or two elements is below 128, so the cast loses nothing.
 use Prim.Native.Nat.{◌+◌, ◌%◌}
 use native.Mathlib.Omega.{arith}
-use borrow.Author.Rules.{rules}
 use Rattle.maker_spec.specs.Made.{be_picked}
 use Rattle.maker_law.proofs.Making.{data_small}
 use Rattle.maker.proofs.instructions.data_of.Goals as goal

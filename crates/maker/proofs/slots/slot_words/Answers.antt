@@ -1,25 +1,22 @@
 -- In each arm the kind is known; an extension fills five cells, and the last three are 0.
-use Prim.Native.Nat.{◌≤◌}
-use native.Mathlib.Omega.{arith}
-use borrow.Author.Rules.{rules}
+use lib.Dec.{lit≤}
 use Rattle.maker.proofs.Eight.{slot_extension}
 use Rattle.maker.specs.Inner.{cell_in}
 use Rattle.maker.proofs.slots.slot_words.Goals as goal
 
-pub returns-in-0 : goal.returns-in-0
-returns-in-0 c = rw (c.in-0.is, c.add.ensures)
+pub returns-in-Add : goal.returns-in-Add
+returns-in-Add c = rw (c.in-Add.is, c.add.ensures)
 
-pub returns-in-1 : goal.returns-in-1
-returns-in-1 c = rw (c.in-1.is, c.mul.ensures)
+pub returns-in-Mul : goal.returns-in-Mul
+returns-in-Mul c = rw (c.in-Mul.is, c.mul.ensures)
 
-pub returns-in-2 : goal.returns-in-2
-returns-in-2 c = rw c.in-2.is
+pub returns-in-Deref : goal.returns-in-Deref
+returns-in-Deref c = rw c.in-Deref.is
 
-pub returns-in-3 : goal.returns-in-3
-returns-in-3 c = rw c.in-3.is
+pub returns-in-Jump : goal.returns-in-Jump
+returns-in-Jump c = rw c.in-Jump.is
 
-pub returns-in_default : goal.returns-in_default
-returns-in_default c =
+pub returns-in-Extension : goal.returns-in-Extension
+returns-in-Extension c =
     let s = c.args in
-    let up : 4 ≤ s.kind = omega arith in
-    rw c.result_of-e.ensures (slot_extension (cell_in s.cells.now) s.kind s.a s.c up)
+    rw (c.in-Extension.is, c.result_of-e.ensures) (slot_extension (cell_in s.cells.now) 4 s.a s.c (lit≤ tt))

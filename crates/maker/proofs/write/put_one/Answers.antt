@@ -1,6 +1,5 @@
 -- Each buffer's bytes are what `put_words` makes of the words of its call.
 use mathlib.Core.Path.{◌∙◌}
-use borrow.Author.Rules.{rules}
 use Rattle.maker.proofs.Filling.{program_lent, memory_lent}
 use Rattle.maker.proofs.write.put_one.Goals as goal
 

@@ -1,7 +1,7 @@
--- The invariant: the first k words stand at the front, then what stood there. The measure is the words left.
+-- The invariant: the first k words stand at the front, then what stood there.
 use mathlib.Core.Path.{ap, ◌∙◌, ◌≡◌}
 use mathlib.Core.List.{append-nil, ◌++◌}
-use Prim.Native.Nat.{◌+◌, ◌-◌, ◌*◌, ◌≤◌}
+use Prim.Native.Nat.{◌+◌, ◌*◌}
 use native.Mathlib.Omega.{arith}
 use borrow.Author.Rules.{rules}
 use lib.ListN.{drop_of_length-le, length, drop, get_or}
@@ -19,13 +19,13 @@ loop-k-preserved c =
     let a = c.args in
     let pre = c.requires in
     let e : c.put_word.new.s ≡ concatenated (λ j. bytes_of (get_or a.words.now j 0)) (l.k + 1) ++ drop (4 * (l.k + 1)) a.s.now =
-    c.put_word.ensures ∙ rw l.invariant.2 (word_put a.words.now a.s.now l.k (omega arith) pre)
+    c.put_word.ensures ∙ rw l.invariant.1 (word_put a.words.now a.s.now l.k (omega arith) pre)
     in
-    (omega arith, ap length e ∙ word_length a.words.now a.s.now l.k (omega arith) pre, e)
+    (ap length e ∙ word_length a.words.now a.s.now l.k (omega arith) pre, e)
 
 pub returns : goal.returns
 returns c =
     let l = c.loop-k in
     let a = c.args in
     let e : l.k ≡ length a.words.now = omega arith in
-    l.invariant.2 ∙ rw (e, drop_of_length-le a.s.now {i = 4 * length a.words.now} (omega arith)) (append-nil _)
+    l.invariant.1 ∙ rw (e, drop_of_length-le a.s.now {i = 4 * length a.words.now} (omega arith)) (append-nil _)

@@ -1,5 +1,4 @@
 -- The kind is in AUX, and the modes in four flags.
-use borrow.Author.Rules.{rules}
 use mathlib.Core.Path.{sym}
 use Rattle.form.specs.Instruction.{instruction_at}
 use Rattle.range.proofs.Words.{adds_by_aux}

@@ -1,5 +1,4 @@
 -- The kind is in AUX, A and β are words 0 and 1.
-use borrow.Author.Rules.{rules}
 use mathlib.Core.Path.{sym}
 use Rattle.form.specs.Instruction.{instruction_at}
 use Rattle.range.proofs.Words.{derefs_by_aux}

@@ -1,30 +1,29 @@
 -- `output::replay` meets its contract: the six lines alone, or the label and then the six lines.
-use Rattle.std.proofs.Common.{rules, sym, ◌∙◌}
+use Rattle.std.proofs.Common.{rules, refl}
+use Rattle.answer.proofs.Named.{refusal_not_accepted}
 use Rattle.program_build.proofs.Output.{inside}
-use Rattle.replay.proofs.Printing.{bad_label, lines_fit, good_label}
+use Rattle.replay.proofs.Printing.{bad_label, label_given, lines_fit, good_label}
 use Rattle.replay.proofs.output.replay.Goals as goal
 
-pub returns-then-not-accepted : goal.returns-then-not-accepted
-returns-then-not-accepted c =
-    let read = c.read_label-reading in
-    bad_label c.args.text.now c.args.out.now read.result read.ensures (sym c.accepted.ensures ∙ c.if-not-accepted.true)
-    c.put_answer.ensures
+pub unwrap-length-requires : goal.unwrap-length-requires
+unwrap-length-requires c =
+    label_given c.args.text.now c.args.out.now _ c.in-Ok.ensures refl (search rules) _ c.write_label.ensures.value
 
 pub answer_to-requires : goal.answer_to-requires
-answer_to-requires c =
-    let read = c.read_label-reading in
-    inside c.args.text.now read.result read.ensures (sym c.accepted.ensures ∙ c.if-not-accepted.false)
+answer_to-requires c = inside c.args.text.now _ c.in-Ok.ensures refl
 
-pub put_answer-requires-2 : goal.put_answer-requires-2
-put_answer-requires-2 c =
-    let read = c.read_label-reading in
-    let w = c.write_label-written in
-    lines_fit c.args.text.now c.args.out.now read.result read.ensures (sym c.accepted.ensures ∙ c.if-not-accepted.false)
-    (search rules) w.ensures.0 w.ensures.1
+pub put_answer-requires : goal.put_answer-requires
+put_answer-requires c =
+    let w = c.write_label.ensures in
+    lines_fit c.args.text.now c.args.out.now _ c.in-Ok.ensures refl (search rules)
+    (rw c.unwrap-length.ensures at w.length_written) w.buffer_after
 
-pub returns : goal.returns
-returns c =
-    let read = c.read_label-reading in
-    let w = c.write_label-written in
-    good_label c.args.text.now c.args.out.now read.result read.ensures (sym c.accepted.ensures ∙ c.if-not-accepted.false)
-    (search rules) w.ensures.0 w.ensures.1 (rw c.answer_to.ensures at c.put_answer-2.ensures)
+pub returns-in-Ok : goal.returns-in-Ok
+returns-in-Ok c =
+    let w = c.write_label.ensures in
+    good_label c.args.text.now c.args.out.now _ c.in-Ok.ensures refl (search rules)
+    (rw c.unwrap-length.ensures at w.length_written) w.buffer_after (rw c.answer_to.ensures at c.put_answer.ensures)
+
+pub returns-in-Err : goal.returns-in-Err
+returns-in-Err c =
+    bad_label c.args.text.now c.args.out.now _ c.in-Err.ensures (refusal_not_accepted c.in-Err.refusal) c.put_answer-in-Err.ensures

@@ -10,4 +10,4 @@ returns-then-recipe-ne10 c = rw (ne_eqb c.args.recipe.m 10 c.if-recipe-ne10.true
 
 pub returns : goal.returns
 unfolding replay_of
-returns c = rw (eq-eqb c.args.recipe.m 10 (search rules)) c.judged_in_space.ensures
+returns c = rw (eq-eqb c.args.recipe.m 10 (search rules)) c.judged.ensures

@@ -1,11 +1,4 @@
 -- One test covers the row; each column is the word that its call read.
-use borrow.Author.Rules.{rules}
-use Prim.Native.Nat.{ℕ, ◌+◌, ◌≤◌}
-use native.Mathlib.Omega.{arith}
-use lib.Dec.{lit≤}
-use lib.ListN.{length}
-use mir.Syntax.{w64}
-use mir.Val.{Fits}
 use Rattle.rows.proofs.Reading.{exec_made}
 use Rattle.rows.proofs.execution.exec_inside.Goals as goal
 

@@ -1,11 +1,5 @@
 -- One test covers the row; each column is one of the five words that its call read.
-use borrow.Author.Rules.{rules}
-use Prim.Native.Nat.{ℕ, ◌+◌, ◌≤◌}
-use native.Mathlib.Omega.{arith}
-use lib.Dec.{lit<, lit≤}
-use lib.ListN.{length}
-use mir.Syntax.{w64}
-use mir.Val.{Fits}
+use lib.Dec.{lit<}
 use Rattle.rows.proofs.Reading.{ext_of_fives}
 use Rattle.rows.proofs.extension.ext_inside.Goals as goal
 

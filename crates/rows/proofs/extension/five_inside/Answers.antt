@@ -1,11 +1,4 @@
 -- Each coordinate is the word that its call read.
-use borrow.Author.Rules.{rules}
-use Prim.Native.Nat.{ℕ, ◌+◌, ◌≤◌}
-use native.Mathlib.Omega.{arith}
-use lib.Dec.{lit≤}
-use lib.ListN.{length}
-use mir.Syntax.{w64}
-use mir.Val.{Fits}
 use mathlib.Core.Path.{refl}
 use Rattle.word.proofs.Lists.{◌∷≡◌}
 use Rattle.rows.specs.Rows.{five_at}

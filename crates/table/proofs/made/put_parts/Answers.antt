@@ -1,13 +1,18 @@
 -- `made::put_parts` meets its contract: each part goes where the one before it ends.
-use Rattle.std.proofs.Common.{◌+◌, ◌≤◌, ◌++◌, length, arith}
+use Rattle.std.proofs.Common.{◌++◌, sym, arith, length-append}
 use Rattle.program_build.proofs.Output.{fills_front}
-use Rattle.lines.proofs.Placing.{stands_four}
+use Rattle.lines.proofs.Putting.{put_next}
 use Rattle.table.proofs.made.put_parts.Goals as goal
 
 pub returns : goal.returns
 returns c =
-    let a = c.args in
-    let room : 0 + length a.program.now + length a.memory.now + length a.exec.now ≤ length a.out.now = omega arith in
-    fills_front (a.program.now ++ a.memory.now ++ a.exec.now ++ a.ext.now) a.out.now
-    (stands_four a.out.now 0 a.program.now a.memory.now a.exec.now a.ext.now room
-    c.put-memory_at.ensures c.put-exec_at.ensures c.put-ext_at.ensures c.put.ensures)
+    let p = c.args.program.now in
+    let m = c.args.memory.now in
+    let e = c.args.exec.now in
+    let x = c.args.ext.now in
+    let two = length-append p m in
+    let three = length-append (p ++ m) e in
+    let four = length-append (p ++ m ++ e) x in
+    let parts = put_next (omega arith) (put_next (omega arith) (put_next (omega arith) c.put.ensures c.put-2.ensures) c.put-3.ensures) c.put-4.ensures in
+    let same = sym parts.same in
+    fills_front (p ++ m ++ e ++ x) c.args.out.now (parts.place, grind (arith, same, parts.bytes))

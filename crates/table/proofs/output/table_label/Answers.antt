@@ -1,30 +1,20 @@
 -- `output::table_label` meets its contract: nothing for a bad label or another m, and else the recipe's tables.
-use Rattle.std.proofs.Common.{rules, sym, ◌∙◌}
+use Rattle.std.proofs.Common.{rules, refl}
 use Rattle.program_build.proofs.Output.{inside}
-use Rattle.table.proofs.Writing.{bad_label, other_m, good_label}
+use Rattle.table.proofs.Writing.{not_read, bad_label, other_m, good_label}
 use Rattle.table.proofs.output.table_label.Goals as goal
 
-pub returns-then-not-accepted : goal.returns-then-not-accepted
-returns-then-not-accepted c =
-    let read = c.read_label-reading in
-    bad_label c.args.text.now c.args.out.now read.result read.ensures (sym c.accepted.ensures ∙ c.if-not-accepted.true)
+pub returns-in_default : goal.returns-in_default
+returns-in_default c =
+    bad_label c.args.text.now c.args.out.now _ c.read_label.ensures (not_read c.read_label.result c.in_default.not-Ok)
 
 pub returns-then-recipe-ne10 : goal.returns-then-recipe-ne10
 returns-then-recipe-ne10 c =
-    let read = c.read_label-reading in
-    other_m c.args.text.now c.args.out.now read.result read.ensures (sym c.accepted.ensures ∙ c.if-not-accepted.false)
-    c.if-recipe-ne10.true
+    other_m c.args.text.now c.args.out.now _ c.in-Ok.ensures refl c.if-recipe-ne10.true
 
-pub tables_in_space-requires : goal.tables_in_space-requires
-tables_in_space-requires c =
-    let read = c.read_label-reading in (
-      inside c.args.text.now read.result read.ensures (sym c.accepted.ensures ∙ c.if-not-accepted.false),
-      search rules,
-      search rules,
-    )
+pub tables-requires : goal.tables-requires
+tables-requires c = (inside c.args.text.now _ c.in-Ok.ensures refl, search rules, search rules)
 
 pub returns : goal.returns
 returns c =
-    let read = c.read_label-reading in
-    good_label c.args.text.now c.args.out.now read.result read.ensures (sym c.accepted.ensures ∙ c.if-not-accepted.false)
-    (search rules) c.tables_in_space.ensures
+    good_label c.args.text.now c.args.out.now _ c.in-Ok.ensures refl (search rules) c.tables.ensures

@@ -1,12 +1,11 @@
--- An instruction that is there was tested, so its form is decoded.
-use mathlib.Core.Path.{◌∙◌, ap}
+-- An instruction that is there was tested, so it has a form.
+use mathlib.Core.Path.{◌∙◌, sym, ap}
 use Rattle.form.specs.Form.{well_formed, decode_of}
 use Rattle.tables.specs.Machine.{form_in}
-use borrow.Author.Rules.{rules}
 use Rattle.tabler.proofs.fetch.form_at.Goals as goal
 
 pub decode_known-requires : goal.decode_known-requires
 decode_known-requires c = let s = c in ap well_formed c.instruction_inside.ensures ∙ s.requires.well_formed s.args.pc s.requires.pc_in_bounds
 
 pub returns : goal.returns
-returns c = c.form_of.ensures ∙ ap form_in (c.decode_known.ensures ∙ ap decode_of c.instruction_inside.ensures)
+returns c = sym (ap form_in c.decode_known.ensures) ∙ ap form_in (ap decode_of c.instruction_inside.ensures)

@@ -1,5 +1,4 @@
 -- A verdict other than 0 is STUCK, ROOM or OPEN, which leave zeros.
-use borrow.Author.Rules.{rules}
 use mathlib.Core.Path.{sym, ap, ◌∙◌}
 use Prim.Native.Nat.{ℕ}
 use lib.ListN.{replicate}
@@ -13,7 +12,7 @@ returns-then-numbers-ne0 c =
     let x = t.six_numbers-numbers in
     let a = t in
     let s = a.args in
-    left_zero s.program.now s.memory.now s.pc s.fp s.exec.now s.ext.now a.run-answer.ensures
+    left_zero s.program.now s.memory.now s.start.pc s.start.fp s.exec.now s.ext.now a.run-answer.ensures
     (λ e. t.if-numbers-ne0.true (ap (λ (n : Numbers). n.verdict) x.ensures ∙ e))
     (c.clear.ensures ∙ ap (λ (n : ℕ). replicate n 0) a.run-answer.auto.exec)
     (c.clear-then-numbers-ne0.ensures ∙ ap (λ (n : ℕ). replicate n 0) a.run-answer.auto.ext)
@@ -23,5 +22,5 @@ returns-else-numbers-ne0 c =
     let x = c.six_numbers-numbers in
     let a = c in
     let s = a.args in
-    left_filled s.program.now s.memory.now s.pc s.fp s.exec.now s.ext.now a.run-answer.ensures
+    left_filled s.program.now s.memory.now s.start.pc s.start.fp s.exec.now s.ext.now a.run-answer.ensures
     (ap (λ (n : Numbers). n.verdict) (sym x.ensures) ∙ c.if-numbers-ne0.false)

@@ -1,5 +1,4 @@
 -- At each return the tests that led there pick the answer; e1 to e5 are the places where a test passed.
-use borrow.Author.Rules.{rules}
 use borrow.Author.Tests.{lt-ltb, le-ltb}
 use mathlib.Core.List.{[]}
 use mathlib.Core.Path.{refl}

@@ -1,27 +1,22 @@
 -- At j the rest is what the elements from j on come to; each turn joins one element more in front.
-use borrow.Author.Rules.{rules}
 use mathlib.Core.Path.{◌≡◌}
-use Prim.Native.Nat.{◌-◌, ◌≤◌}
+use Prim.Native.Nat.{◌-◌}
 use native.Mathlib.Nat.{sub-zero}
 use native.Mathlib.Omega.{arith}
 use Rattle.rules.specs.Sizes.{word_of}
-use Rattle.tabler_operands.specs.Elements.{result_from}
 use Rattle.tabler_operands.proofs.Results.{none_left, one_more, result_exists, element_exists}
 use Rattle.tabler_operands.proofs.elements.result_holds.Goals as goal
 
 pub loop-j-init : goal.loop-j-init
-loop-j-init c =
-    let s = c.args in
-    (omega arith, none_left (word_of s.memory.now) s.g c.none-rest.ensures)
+loop-j-init c = none_left (word_of c.args.memory.now) c.args.g c.none-rest.ensures
 
-pub with_element-more-requires : goal.with_element-more-requires
-with_element-more-requires c = element_exists c.requires _ (omega arith)
+pub with_element-requires : goal.with_element-requires
+with_element-requires c = element_exists c.requires _ (omega arith)
 
 pub loop-j-preserved : goal.loop-j-preserved
 loop-j-preserved c =
     let l = c.loop-j in
-    let s = c.args in
-    (omega arith, one_more (word_of s.memory.now) s.g (l.j - 1) l.j (omega arith) (omega arith) l.invariant.1 c.with_element-more.ensures)
+    one_more (word_of c.args.memory.now) c.args.g (l.j - 1) l.j (omega arith) (omega arith) l.invariant c.with_element.ensures
 
 pub element_at-requires : goal.element_at-requires
 element_at-requires c = result_exists c.requires
@@ -30,5 +25,5 @@ pub returns : goal.returns
 returns c =
     let l = c.loop-j in
     let none : l.j ≡ 0 = omega arith in
-    let all = rw (none, sub-zero _) at l.invariant.1 in
+    let all = rw (none, sub-zero _) at l.invariant in
     rw (c.same.ensures, c.element_at.ensures, all)

@@ -5,7 +5,6 @@ use Prim.Native.Nat.{ℕ, ◌+◌, ◌*◌}
 use Rattle.rows.specs.Rows.{exec_words}
 use Rattle.tabler_rows.specs.Placed.{exec_bytes, placed}
 use Rattle.tabler_rows.proofs.Lent.{put_bytes}
-use borrow.Author.Rules.{rules}
 use Rattle.tabler_rows.proofs.execution.put_row.Goals as goal
 
 pub returns : goal.returns

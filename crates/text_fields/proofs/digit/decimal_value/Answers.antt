@@ -1,17 +1,19 @@
--- `digit::decimal_value` meets its contract: each return has the tests that led there.
+-- `digit::decimal_value` meets its contract: each arm has the tests that led there.
+use native.Mathlib.Omega.{arith}
+use borrow.Author.Rules.{rules}
+use borrow.Author.Tests.{lt-ltb, le-ltb}
 use Rattle.text_fields.specs.Digit.{decimal_value}
 use Rattle.text_fields.proofs.Tests.{tests}
-use borrow.Author.Rules.{rules}
 use Rattle.text_fields.proofs.digit.decimal_value.Goals as goal
 
-pub returns-then-byte-lt48 : goal.returns-then-byte-lt48
+pub returns-in-48-to-57 : goal.returns-in-48-to-57
 unfolding decimal_value
-returns-then-byte-lt48 c = search tests
+returns-in-48-to-57 c = rw (le-ltb c.args.byte 48 (omega arith), lt-ltb c.args.byte 58 (omega arith)) (search rules)
 
-pub returns-then-byte-lt58 : goal.returns-then-byte-lt58
+pub returns-in_default : goal.returns-in_default
 unfolding decimal_value
-returns-then-byte-lt58 c = search tests
+returns-in_default c = search tests
 
-pub returns : goal.returns
+pub returns-in_default-2 : goal.returns-in_default-2
 unfolding decimal_value
-returns c = search tests
+returns-in_default-2 c = search tests

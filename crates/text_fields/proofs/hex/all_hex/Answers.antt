@@ -1,7 +1,6 @@
--- The invariant: the tests so far are those of the digits passed. The measure is what is left of the sixteen.
-use Prim.Native.Nat.{◌-◌, ◌≤◌}
+-- The invariant: the tests so far are those of the digits passed.
 use mathlib.Core.Bool.{Bool, ◌&&◌}
-use mathlib.Core.Path.{◌≡◌, sym, ◌∙◌, ap, ap₂}
+use mathlib.Core.Path.{sym, ◌∙◌, ap, ap₂}
 use native.Mathlib.Omega.{arith}
 use borrow.Author.Rules.{rules}
 use Rattle.text_fields.specs.Digit.{every, hex_at}
@@ -16,9 +15,9 @@ pub loop-k-preserved : goal.loop-k-preserved
 loop-k-preserved c =
     let a = c.args in
     let l = c.loop-k in
-    (search rules, ap₂ (λ (a b : Bool). a && b) l.invariant.1 c.is_hex-good.ensures ∙ sym (every_more (hex_at a.text.now a.at) l.k))
+    ap₂ (λ (a b : Bool). a && b) l.invariant c.is_hex-good.ensures ∙ sym (every_more (hex_at a.text.now a.at) l.k)
 
 pub returns : goal.returns
 returns c =
     let a = c.args in
-    c.loop-k.invariant.1 ∙ ap (every (hex_at a.text.now a.at)) (omega arith)
+    c.loop-k.invariant ∙ ap (every (hex_at a.text.now a.at)) (omega arith)

@@ -1,46 +1,33 @@
 -- The letter's test fails or holds.
-use Prim.Native.Nat.{◌+◌}
-use mathlib.Core.Path.{refl}
-use native.Mathlib.Omega.{arith}
 use borrow.Author.Rules.{rules}
-use Rattle.text_patterns.specs.Fields.{one}
+use lib.ListN.{length, get_or}
 use Rattle.text_fields.specs.Digit.{index_in}
-use Rattle.text_fields.proofs.Range.{most}
-use Rattle.text_fields.proofs.Standing.{stays, stops, gets}
-use Rattle.text_fields.proofs.OneDigit.{no_digit, other_digit, digit_read}
+use Rattle.std.specs.Prelude.{Some, None}
+use Rattle.text_fields.proofs.Letters.{first_place}
+use Rattle.text_fields.proofs.OneDigit.{no_byte, no_digit, other_digit, digit_read}
 use Rattle.text_fields.proofs.letter.read_letter.Goals as goal
 
-pub returns-then-from : goal.returns-then-from
-returns-then-from c =
+pub returns-then-text-at-clause-read : goal.returns-then-text-at-clause-read
+returns-then-text-at-clause-read c =
     let a = c.args in
-    let is = c.stop_at.ensures in
-    let read = stays a.text.now a.from (one (index_in a.letters.now) a.low a.high) (search rules) c.if-from.true is in
-    (read.0, read.1, rw is (omega arith))
+    no_byte (index_in a.letters.now) a.low a.high a.text.now a.at (search rules) (search rules)
 
-pub returns-then-text-at : goal.returns-then-text-at
-returns-then-text-at c =
+pub returns-in_default-clause-read : goal.returns-in_default-clause-read
+returns-in_default-clause-read c =
     let a = c.args in
-    let is = c.stop_at-then-text-at.ensures in
-    let read =
-    stops a.text.now a.from (one (index_in a.letters.now) a.low a.high) c.if-from.false a.from.at (search rules)
-    (no_digit (index_in a.letters.now) a.low a.high a.text.now a.from.at (search rules)) is in
-    (read.0, read.1, rw is (omega arith))
+    let none = first_place a.letters.now (get_or a.text.now a.at 0) None c.in_default.ensures in
+    no_digit (index_in a.letters.now) a.low a.high a.text.now a.at (length a.letters.now) (search rules) (search rules) none
 
-pub returns-then-d-low : goal.returns-then-d-low
-returns-then-d-low c =
+pub returns-then-d-low-clause-read : goal.returns-then-d-low-clause-read
+returns-then-d-low-clause-read c =
     let a = c.args in
-    let v = c.letter_value-d in
-    let is = c.stop_at-then-d-low.ensures in
-    let read =
-    stops a.text.now a.from (one (index_in a.letters.now) a.low a.high) c.if-from.false a.from.at (search rules)
-    (other_digit (index_in a.letters.now) a.low a.high a.text.now a.from.at v.result (search rules) v.ensures c.if-d-low.true) is in
-    (read.0, read.1, rw is (omega arith))
+    let d = c.in-Some.number in
+    let is = first_place a.letters.now (get_or a.text.now a.at 0) (Some d) c.in-Some.ensures in
+    other_digit (index_in a.letters.now) a.low a.high a.text.now a.at d (search rules) is.0 c.if-d-low.true
 
-pub returns : goal.returns
-returns c =
+pub returns-clause-read : goal.returns-clause-read
+returns-clause-read c =
     let a = c.args in
-    let v = c.letter_value-d in
-    let read =
-    gets a.text.now a.from (one (index_in a.letters.now) a.low a.high) c.if-from.false (a.from.at + 1) (search rules) v.result
-    (digit_read (index_in a.letters.now) a.low a.high a.text.now a.from.at v.result (search rules) v.ensures c.if-d-low.false) refl in
-    (read.0, read.1, most a.low a.high v.result c.if-d-low.false)
+    let d = c.in-Some.number in
+    let is = first_place a.letters.now (get_or a.text.now a.at 0) (Some d) c.in-Some.ensures in
+    digit_read (index_in a.letters.now) a.low a.high a.text.now a.at d (search rules) is.0 c.if-d-low.false

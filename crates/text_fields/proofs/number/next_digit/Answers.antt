@@ -1,25 +1,20 @@
 -- Each return has the tests that led there.
 use Rattle.text_fields.specs.Digit.{next_digit}
 use Rattle.text_fields.proofs.Tests.{tests}
-use borrow.Author.Rules.{rules}
 use Rattle.text_fields.proofs.number.next_digit.Goals as goal
 
-pub returns-then-end-byte : goal.returns-then-end-byte
+pub returns-in_err-d : goal.returns-in_err-d
 unfolding next_digit
-returns-then-end-byte c = search tests
+returns-in_err-d c = search tests
 
 pub returns-then-y-high : goal.returns-then-y-high
 unfolding next_digit
-returns-then-y-high c = rw (← c.decimal_value-d.ensures.0) (search tests)
+returns-then-y-high c = rw (← c.in_ok-d.ensures.0) (search tests)
 
 pub returns-else-y-high : goal.returns-else-y-high
 unfolding next_digit
-returns-else-y-high c = rw (← c.decimal_value-d.ensures.0) (search tests)
+returns-else-y-high c = rw (← c.in_ok-d.ensures.0) (search tests)
 
 pub returns-else-x-gt0 : goal.returns-else-x-gt0
 unfolding next_digit
-returns-else-x-gt0 c = rw (← c.decimal_value-d.ensures.0) (search tests)
-
-pub returns-else-d-lt10 : goal.returns-else-d-lt10
-unfolding next_digit
-returns-else-d-lt10 c = rw (← c.decimal_value-d.ensures.0) (search tests)
+returns-else-x-gt0 c = rw (← c.in_ok-d.ensures.0) (search tests)

@@ -1,6 +1,5 @@
 -- `word::bytes::word_near_end` meets its contract: each byte is read with the default past the end.
 -- Assumes nothing.
-use borrow.Author.Rules.{rules}
 use Rattle.word.proofs.FourBytes.{past}
 use Rattle.word.proofs.bytes.word_near_end.Goals as goal
 

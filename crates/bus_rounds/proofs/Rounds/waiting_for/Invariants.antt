@@ -1,0 +1,6 @@
+-- The slots that are tried are there.
+use Prim.Native.Nat.{◌<◌}
+use Rattle.bus_rounds.proofs.Rounds.waiting_for.Given as goal
+
+abbrev pub invariant-loop : goal.invariant-loop
+invariant-loop l = l.s < 6553

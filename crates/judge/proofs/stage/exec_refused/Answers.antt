@@ -1,6 +1,0 @@
--- What stood there is the row's own.
-use borrow.Author.Rules.{rules}
-use Rattle.judge.proofs.stage.exec_refused.Goals as goal
-
-pub returns : goal.returns
-returns c = rw c.exec_found-stood.ensures

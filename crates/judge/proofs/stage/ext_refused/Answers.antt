@@ -1,6 +1,0 @@
--- What stood there is the row's own.
-use borrow.Author.Rules.{rules}
-use Rattle.judge.proofs.stage.ext_refused.Goals as goal
-
-pub returns : goal.returns
-returns c = rw c.ext_found-stood.ensures

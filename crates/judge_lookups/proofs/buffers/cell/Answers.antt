@@ -1,8 +1,0 @@
--- One cell does not cross the seam.
-use borrow.Author.Rules.{rules}
-use mathlib.Core.Path.{◌∙◌}
-use Rattle.judge_lookups.proofs.Seam.{one_held}
-use Rattle.judge_lookups.proofs.buffers.cell.Goals as goal
-
-pub returns : goal.returns
-returns c = c.cells.ensures ∙ one_held _ _ _ (search rules)

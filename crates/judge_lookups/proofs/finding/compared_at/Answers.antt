@@ -1,6 +1,0 @@
--- The word that stands there is the cell's.
-use borrow.Author.Rules.{rules}
-use Rattle.judge_lookups.proofs.finding.compared_at.Goals as goal
-
-pub returns : goal.returns
-returns c = rw c.cell_inside.ensures at c.compared.ensures
