@@ -3,9 +3,9 @@
 Public means exported from its crate. An entry, one of ENTRIES, is what a program, a C call or a customer hands bytes to: it has no `requires`.
 Every other public function is inner: it may have a `requires`, which each caller proves. Of both kinds the promise is an equation for the answer
 (of a struct: for the whole, or for each field, where a record of specs/ that is equations of its parameters counts as these; of a Result: for
-its answer and for its number) and one for what each lent buffer holds at return, its `new`. A relation of specs/ of which a lemma shows that
-no two values meet it counts as an equation for its last argument. The facts of a promise are its `ensures` clauses, and in one what `×` joins;
-what holds only where something else does counts for nothing. A promise that is none is named in docs/EXCEPTIONS.md, in backquotes
+its answer and for its number) and one for what each lent buffer holds at return, its `new`. The facts of a promise are its `ensures` clauses,
+and in one what `×` joins; what holds only where something else does counts for nothing, and a relation that one answer alone meets is no
+equation. A promise that is none is named in docs/EXCEPTIONS.md, in backquotes
 at a line's start, and argued for there; a name there that needs no excuse is a fault too. What no other crate needs is `pub(crate)`."""
 import pathlib
 import re
@@ -30,8 +30,6 @@ EXPORT = re.compile(r"^pub use ([^;]+);", re.M)
 EXCEPTION = re.compile(r"^- `([\w:]+)`", re.M)
 STRUCT = re.compile(r"^(?:pub )?struct (\w+)(?:<[^>]*>)? \{\n(.*?)^\}", re.M | re.S)
 RECORD = re.compile(r"^pub record (\w+) (.*?) : Type 0 where\n((?:  .*\n)+)", re.M)
-# a lemma that two values which meet a relation are one
-ONE = re.compile(r"^pub [\w-]+ : .*→ (\w+)((?: \w+)*) r → (\w+)((?: \w+)*) s → r ≡ s$", re.M)
 CLAUSE = re.compile(r"^\s*(requires|ensures)(?: \w+)? \{", re.M)
 # a fact that holds only where another does
 CONDITIONAL = re.compile(r"→|∨|⊎|\b(?:If|On)(?:Ok|Err|Some|None)\b")
@@ -125,24 +123,11 @@ def records(fields):
     return found
 
 
-def relations():
-    """The relations of specs/ that one value alone meets, by a lemma of specs/ or proofs/."""
-    return {
-        first
-        for folder in ("specs", "proofs")
-        for source in ROOT.glob(f"crates/*/{folder}/**/*.antt")
-        for first, given, second, again in ONE.findall(source.read_text())
-        if (first, given) == (second, again)
-    }
-
-
-def determines(facts, returned, fields, equations, ones):
+def determines(facts, returned, fields, equations):
     """Whether the facts have an equation for an answer of this type."""
     given, sides = set(), set()
     for fact in facts:
         if re.match(r"(?!length |answer_of |number_of )(?:\w+ result|cond result 1 0|result) ≡ ", fact) or fact.endswith(" ≡ Some result"):
-            return True
-        if fact.split()[0] in ones and fact.endswith(" result"):
             return True
         sides |= set(re.findall(r"^(answer_of|number_of) result ≡ ", fact))
         if sides == {"answer_of", "number_of"}:
@@ -161,7 +146,7 @@ def lent_at_return(fact, buffer, equations):
     return fact.startswith(f"{buffer}.new ≡ ") or f"{buffer}.new" in equated
 
 
-def faults_of(contract, fields, equations, ones):
+def faults_of(contract, fields, equations):
     """What the promise leaves open."""
     signature = CLAUSE.split(contract, maxsplit=1)[0]
     promise = [body for kind, body in clauses(contract) if kind == "ensures"]
@@ -170,7 +155,7 @@ def faults_of(contract, fields, equations, ones):
         yield "has no promise"
         return
     facts = [bare(fact) for body in promise if not CONDITIONAL.search(body) for fact in parts(body, "×")]
-    if returned and not determines(facts, returned[1], fields, equations, ones):
+    if returned and not determines(facts, returned[1], fields, equations):
         yield "has no equation for its answer"
     for lent in re.findall(r"(\w+): &(?:'\w+ )?mut |&(?:'\w+ )?mut (self)", signature):
         if not any(lent_at_return(fact, "".join(lent), equations) for fact in facts):
@@ -179,7 +164,7 @@ def faults_of(contract, fields, equations, ones):
 
 def main():
     excused = set(EXCEPTION.findall((ROOT / "docs/EXCEPTIONS.md").read_text()))
-    fields, ones, seen, faults, used = structs(), relations(), set(), [], set()
+    fields, seen, faults, used = structs(), set(), [], set()
     equations = records(fields)
     for source in sorted(ROOT.glob("crates/*/src/**/*.rt")):
         crate = source.relative_to(ROOT / "crates").parts[0]
@@ -193,7 +178,7 @@ def main():
                 continue
             if whole in ENTRIES and any(kind == "requires" for kind, _ in clauses(contract)):
                 faults.append(f"{whole} is an entry and has a requires")
-            open_ends = list(faults_of(contract, fields, equations, ones))
+            open_ends = list(faults_of(contract, fields, equations))
             if open_ends and whole in excused:
                 used.add(whole)
             else:

@@ -7,6 +7,8 @@ use mathlib.Core.Path.{◌≡◌, refl, sym, ◌∙◌, ap, subst}
 use native.Mathlib.Omega.{arith}
 use lib.ListN.{length, take, drop}
 use lib.Seq.{take-append_seam}
+use Rattle.std.specs.Prelude.{Result, Ok, Err}
+use Rattle.answer.specs.declared.Refusal.{Refusal}
 use Rattle.answer.specs.Determined.{Determined, equations}
 use Rattle.answer.specs.Answers.{Accepted, Label}
 use Rattle.text_patterns.specs.Pattern.{Parsed, got, left, parse, Spells}
@@ -15,9 +17,9 @@ use Rattle.text_patterns.proofs.Law.{unique}
 use Rattle.text_patterns.proofs.Patterns.{spells_one}
 use Rattle.text_patterns.proofs.Parsing.{parse_owed, ParseOwed}
 use Rattle.label.specs.declared.Recipe.{Recipe}
-use Rattle.label.specs.Writing.{Written, written, buffered}
+use Rattle.label.specs.Writing.{Written, written_by, written, buffered}
 use Rattle.label.specs.Label.{InRange, label_of}
-use Rattle.label.specs.Reading.{Reading, Valid, Reads}
+use Rattle.label.specs.Reading.{Reading, reading_of, Valid, Reads}
 use Rattle.label.specs.Reader.{label, refused_at}
 use Rattle.label.proofs.Labels.{spelling_label}
 use Rattle.label.proofs.Writing.{enough}
@@ -51,6 +53,17 @@ reading_determined text r s (inr a) (inl b) = absurd (a.invalid (s.recipe, b.ran
 reading_determined text r s (inr a) (inr b) =
     let e = unique a.place b.place a.nearest b.nearest in
     λ i. record { answer = (a.answer ∙ (ap Label e ∙ sym b.answer)) i; recipe = (a.recipe ∙ sym b.recipe) i }
+
+-- a reading is of one result
+pub one_result : (z w : Result Recipe Refusal) → reading_of z ≡ reading_of w → z ≡ w
+one_result (Ok r) (Ok s) e = ap Ok (ap (λ (R : Reading). R.recipe) e)
+one_result (Ok r) (Err u) e = let z : ◌≡◌ {A = ℕ} 0 1 = cc (ap (λ (R : Reading). R.answer) e) in absurd (omega arith)
+one_result (Err t) (Ok s) e = let z : ◌≡◌ {A = ℕ} 0 1 = cc (ap (λ (R : Reading). R.answer) e) in absurd (omega arith)
+one_result (Err t) (Err u) e = let same : t ≡ u = cc (ap (λ (R : Reading). R.answer) e) in ap Err same
+
+-- so no two results keep the promise either
+pub result_determined : (text : List ℕ) → Determined (λ (z : Result Recipe Refusal). Reads text (reading_of z))
+result_determined text z w a b = one_result z w (reading_determined text (reading_of z) (reading_of w) a b)
 
 -- a recipe's label reads as that recipe, all 64 bits of its seed
 pub label_reads : (r : Recipe) → InRange r → (R : Reading) → Reads (label_of r) R → (R.answer ≡ Accepted) × (R.recipe ≡ r)
@@ -93,3 +106,17 @@ write_then_read r buffer R h room p =
 pub writing_determined : (r : Recipe) (buffer : List ℕ)
     → Determined (λ (x : Written × List ℕ). (x.0 ≡ written r (length buffer)) × (x.1 ≡ buffered r buffer))
 writing_determined r buffer = equations (written r (length buffer)) (buffered r buffer)
+
+-- what was written is of one result
+pub one_written : (z w : Result ℕ Refusal) → written_by z ≡ written_by w → z ≡ w
+one_written (Ok x) (Ok y) e = ap Ok (ap (λ (v : Written). v.length) e)
+one_written (Ok x) (Err u) e = let z : ◌≡◌ {A = ℕ} 0 1 = cc (ap (λ (v : Written). v.answer) e) in absurd (omega arith)
+one_written (Err t) (Ok y) e = let z : ◌≡◌ {A = ℕ} 0 1 = cc (ap (λ (v : Written). v.answer) e) in absurd (omega arith)
+one_written (Err t) (Err u) e = let same : t ≡ u = cc (ap (λ (v : Written). v.answer) e) in ap Err same
+
+-- so no two results and buffers keep the promise either
+pub written_determined : (r : Recipe) (buffer : List ℕ)
+    → Determined (λ (x : Result ℕ Refusal × List ℕ). (written_by x.0 ≡ written r (length buffer)) × (x.1 ≡ buffered r buffer))
+written_determined r buffer x y p q =
+    let e = one_written x.0 y.0 (p.0 ∙ sym q.0) in
+    λ i. (e i, (p.1 ∙ sym q.1) i)

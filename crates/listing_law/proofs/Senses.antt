@@ -4,7 +4,10 @@ use Prim.Native.Nat.{ℕ, ◌-◌, ◌^◌, ◌≤◌}
 use mathlib.Core.List.{List, [], ◌∷◌}
 use mathlib.Core.Logic.{◌↔◌}
 use mathlib.Core.Path.{◌≡◌, sym, ap, subst, ◌∙◌}
+use native.Mathlib.Omega.{arith}
 use lib.ListN.{length}
+use Rattle.std.specs.Prelude.{Result, Ok, Err}
+use Rattle.answer.specs.declared.Refusal.{Refusal}
 use Rattle.form.specs.declared.Form.{Form}
 use Rattle.text_patterns.specs.Place.{Place}
 use Rattle.text_patterns.specs.Pattern.{Each, flat, Spells, Parsed, got, left, parse}
@@ -14,7 +17,7 @@ use Rattle.text_patterns.proofs.Parsing.{ParseOwed, parse_owed}
 use Rattle.listing_spec.specs.Listing.{form_line, listing_of}
 use Rattle.listing_spec.specs.Program.{WellFormedProgram}
 use Rattle.listing_spec.specs.Reading.{ValidListing, Sense, Lists, LeavesAt, Means, assembled, assembled_in, Assembles}
-use Rattle.listing_spec.specs.Writing.{Transcribed}
+use Rattle.listing_spec.specs.Writing.{Transcribed, transcribed_by}
 use Rattle.listing_forms.specs.Forms.{Listable, program_of}
 use Rattle.listing_forms.proofs.Programs.{well_formed_lem, its_listing, of_forms}
 use Rattle.listing_line.specs.Line.{listing_lines}
@@ -80,3 +83,19 @@ assembles_one text buffer r s after later a b =
       a.returned ∙ ap (λ (x : Sense). assembled x buffer) e ∙ sym b.returned,
       a.left ∙ ap (λ (x : Sense). assembled_in x buffer) e ∙ sym b.left,
     )
+
+-- what was written is of one result
+pub one_transcribed : (z w : Result ℕ Refusal) → transcribed_by z ≡ transcribed_by w → z ≡ w
+one_transcribed (Ok x) (Ok y) e = ap Ok (ap (λ (t : Transcribed). t.written) e)
+one_transcribed (Ok x) (Err u) e = let z : ◌≡◌ {A = ℕ} 0 1 = cc (ap (λ (t : Transcribed). t.answer) e) in absurd (omega arith)
+one_transcribed (Err r) (Ok y) e = let z : ◌≡◌ {A = ℕ} 0 1 = cc (ap (λ (t : Transcribed). t.answer) e) in absurd (omega arith)
+one_transcribed (Err r) (Err u) e = let same : r ≡ u = cc (ap (λ (t : Transcribed). t.answer) e) in ap Err same
+
+-- so the promise admits one result and one buffer
+pub assembles_result : (text buffer : List ℕ) (z w : Result ℕ Refusal) (after later : List ℕ)
+    → Assembles text buffer (transcribed_by z) after
+    → Assembles text buffer (transcribed_by w) later
+    → (z ≡ w) × (after ≡ later)
+assembles_result text buffer z w after later a b =
+    let e = assembles_one text buffer (transcribed_by z) (transcribed_by w) after later a b in
+    (one_transcribed z w e.0, e.1)

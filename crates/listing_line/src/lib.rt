@@ -3,8 +3,9 @@
 
 mod names;
 
-ghost use Rattle.std.specs.Prelude.{◌≡◌, ◌≤◌, length};
-ghost use Rattle.text_fields.specs.Field.{Read};
+ghost use Rattle.std.specs.Prelude.{◌≡◌, ◌≤◌, length, drop};
+ghost use Rattle.text_patterns.specs.Pattern.{parse};
+ghost use Rattle.text_fields.specs.Field.{Read, read_as};
 ghost use Rattle.listing_forms.specs.Forms.{greatest};
 ghost use Rattle.listing_line.specs.Line.{last_end, operand_from, plain_kind, from_call, line_fields};
 
@@ -78,8 +79,8 @@ fn read_call(
     })
 }
 
-// A line from a byte of the text on: its fields, each read behind the one before it.
-pub fn read_line(text: &[u8], from: usize) -> Result<Field<Form>, Stop>
+// The fields of a line, each read behind the one before it.
+fn read_fields(text: &[u8], from: usize) -> Result<Field<Form>, Stop>
     requires { from ≤ length text.now }
     ensures { Read line_fields text.now from result }
 {
@@ -99,4 +100,13 @@ pub fn read_line(text: &[u8], from: usize) -> Result<Field<Form>, Stop>
     let b_read = operand_from(b_mode.value, b.value);
     let c_read = operand_from(c_mode.value, c.value);
     read_call(text, c.at, kind.value, op.value, a_read, b_read, c_read)
+}
+
+// A line from a byte of the text on.
+pub fn read_line(text: &[u8], from: usize) -> Result<Field<Form>, Stop>
+    requires { from ≤ length text.now }
+    ensures read { Read line_fields text.now from result }
+    ensures told { result ≡ read_as text.now (parse line_fields (drop from text.now)) }
+{
+    read_fields(text, from)
 }

@@ -2,7 +2,7 @@
 -- Assumes nothing.
 use mathlib.Core.Path.{sym}
 use Rattle.answer.specs.Determined.{equations}
-use Rattle.label.proofs.Label.{reading_some, reading_determined, writing_determined, label_reads, reads_label, refused_place}
+use Rattle.label.proofs.Label.{reading_some, reading_determined, result_determined, writing_determined, written_determined, label_reads, reads_label, refused_place}
 use Rattle.label.proofs.Writing.{enough}
 use Rattle.maker.proofs.Determined.{make_determined}
 use Rattle.tabler.proofs.Determined.{table_determined}
@@ -34,6 +34,8 @@ demand_one =
       maker_one = make_determined;
       reader_one = reading_determined;
       writer_one = writing_determined;
+      read_label_one = result_determined;
+      write_label_one = written_determined;
       judge_call_one = λ q buffer. equations _ _;
       reader_call_one =
           λ text answer recipe r s a b.

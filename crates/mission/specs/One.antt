@@ -5,15 +5,16 @@
 -- so it takes whatever is handed in. What is left is here: each promise admits one outcome, six numbers name one
 -- answer, and what each refusal does to the buffers. What a refusal says, and so its one place, is demand 2 for judge
 -- and label, demand 3 for the tabler.
--- Declared in src/: Recipe (label).
-use Rattle.std.specs.Prelude.{◌≡◌, ◌⊎◌, List, ℕ, ◌≤◌, length, replicate}
+-- Declared in src/: Refusal (answer); Recipe (label).
+use Rattle.std.specs.Prelude.{◌≡◌, ◌⊎◌, List, ℕ, ◌≤◌, length, replicate, Result}
 use Rattle.reply.specs.Reply.{answer_bytes}
 use Rattle.answer.specs.Determined.{Determined}
 use Rattle.answer.specs.Verdicts.{numbers_of}
 use Rattle.answer.specs.Answers.{Answer}
+use Rattle.answer.specs.declared.Refusal.{Refusal}
 use Rattle.label.specs.Label.{no_recipe}
-use Rattle.label.specs.Reading.{Reading, Reads}
-use Rattle.label.specs.Writing.{written, buffered}
+use Rattle.label.specs.Reading.{Reading, reading_of, Reads}
+use Rattle.label.specs.Writing.{written_by, written, buffered}
 use Rattle.label.specs.declared.Recipe.{Recipe}
 use Rattle.maker_spec.specs.Bytes.{make_of, program_after, memory_after}
 use Rattle.rules.specs.Sizes.{Parts}
@@ -38,6 +39,11 @@ pub record DemandOne : Type 0 where
   pub maker_one : (r : Recipe) (program memory : List ℕ) → Determined (MakerPromise r program memory)
   pub reader_one : (text : List ℕ) → Determined (Reads text)
   pub writer_one : (r : Recipe) (buffer : List ℕ) → Determined (WriterPromise r buffer)
+  -- these two speak of a record of what is returned: of the `Result` that `label::read_label` and `label::write_label`
+  -- return themselves, no two keep the promise either
+  pub read_label_one : (text : List ℕ) → Determined (λ (z : Result Recipe Refusal). Reads text (reading_of z))
+  pub write_label_one : (r : Recipe) (buffer : List ℕ)
+      → Determined (λ (x : Result ℕ Refusal × List ℕ). WriterPromise r buffer (written_by x.0, x.1))
   pub judge_call_one : (q : Parts) (buffer : List ℕ) → Determined (JudgeCall q buffer)
   pub reader_call_one : (text answer recipe : List ℕ) → Determined (ReaderCall text answer recipe)
   pub program_one : (output : Reading → List ℕ) (text buffer : List ℕ) → Determined (ProgramPromise output text buffer)

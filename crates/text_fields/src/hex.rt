@@ -3,7 +3,7 @@ ghost use Rattle.std.specs.Prelude.{true, ◌≡◌, ◌+◌, ◌≤◌, length,
 ghost use Rattle.text_patterns.specs.Pattern.{parse, got};
 ghost use Rattle.text_patterns.specs.Fields.{digits};
 ghost use Rattle.text_fields.specs.Digit.{hex_value, every, hex_at};
-ghost use Rattle.text_fields.specs.Field.{Read};
+ghost use Rattle.text_fields.specs.Field.{Read, read_as};
 
 use crate::digit::{is_hex, known_hex};
 use crate::{Field, Stop};
@@ -58,7 +58,8 @@ fn hex_by_digit(text: &[u8], at: usize) -> Result<Field<u64>, Stop>
 // All sixteen at once; where that does not go, the place is looked for.
 pub fn read_hex(text: &[u8], at: usize) -> Result<Field<u64>, Stop>
     requires { at ≤ length text.now }
-    ensures { Read (digits 16 hex_value 16 0) text.now at result }
+    ensures read { Read (digits 16 hex_value 16 0) text.now at result }
+    ensures told { result ≡ read_as text.now (parse (digits 16 hex_value 16 0) (drop at text.now)) }
 {
     if 16 <= text.len() - at {
         if all_hex(text, at) {

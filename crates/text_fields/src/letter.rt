@@ -1,8 +1,9 @@
 // One of some letters.
-ghost use Rattle.std.specs.Prelude.{◌≡◌, ◌≤◌, ◌<◌, length, IfOk, position, ◌==◌};
+ghost use Rattle.std.specs.Prelude.{◌≡◌, ◌≤◌, ◌<◌, length, drop, IfOk, position, ◌==◌};
+ghost use Rattle.text_patterns.specs.Pattern.{parse};
 ghost use Rattle.text_patterns.specs.Fields.{one};
 ghost use Rattle.text_fields.specs.Digit.{index_in};
-ghost use Rattle.text_fields.specs.Field.{Read};
+ghost use Rattle.text_fields.specs.Field.{Read, read_as};
 
 use crate::{Field, Stop};
 
@@ -26,6 +27,7 @@ pub fn read_letter(
     requires inside { at ≤ length text.now }
     requires letters { high < length letters.now }
     ensures read { Read (one (index_in letters.now) low high) text.now at result }
+    ensures told { result ≡ read_as text.now (parse (one (index_in letters.now) low high) (drop at text.now)) }
     ensures within { IfOk result (λ r. r.value ≤ high) }
 {
     if text.len() <= at {

@@ -7,11 +7,11 @@ mod hex;
 mod letter;
 mod number;
 
-ghost use Rattle.std.specs.Prelude.{◌≡◌, ◌≤◌, ◌<◌, length, IfOk};
-ghost use Rattle.text_patterns.specs.Pattern.{lit, done};
+ghost use Rattle.std.specs.Prelude.{◌≡◌, ◌≤◌, ◌<◌, length, drop, IfOk};
+ghost use Rattle.text_patterns.specs.Pattern.{lit, done, parse};
 ghost use Rattle.text_patterns.specs.Fields.{one};
 ghost use Rattle.text_fields.specs.Digit.{decimal_value};
-ghost use Rattle.text_fields.specs.Field.{Read, Passed};
+ghost use Rattle.text_fields.specs.Field.{Read, Passed, read_as, passed_as};
 
 use digit::decimal_value;
 pub use hex::read_hex;
@@ -36,7 +36,8 @@ pub struct Stop {
 // Fixed bytes, and the value that they stand for.
 pub fn read_name(text: &[u8], at: usize, word: &[u8], value: u64) -> Result<Field<u64>, Stop>
     requires { at ≤ length text.now }
-    ensures { Read (lit word.now (done value)) text.now at result }
+    ensures read { Read (lit word.now (done value)) text.now at result }
+    ensures told { result ≡ read_as text.now (parse (lit word.now (done value)) (drop at text.now)) }
 {
     for j in 0..word.len() {
         let i = at + j;
@@ -53,7 +54,8 @@ pub fn read_name(text: &[u8], at: usize, word: &[u8], value: u64) -> Result<Fiel
 // Fixed bytes: the place behind them.
 pub fn read_literal(text: &[u8], at: usize, word: &[u8]) -> Result<usize, Stop>
     requires { at ≤ length text.now }
-    ensures { Passed word.now text.now at result }
+    ensures read { Passed word.now text.now at result }
+    ensures told { result ≡ passed_as text.now (parse (lit word.now (done 0)) (drop at text.now)) }
 {
     let read = read_name(text, at, word, 0)?;
     Ok(read.at)
@@ -64,6 +66,7 @@ pub fn read_digit(text: &[u8], at: usize, low: u64, high: u64) -> Result<Field<u
     requires inside { at ≤ length text.now }
     requires decimal { high < 10 }
     ensures read { Read (one decimal_value low high) text.now at result }
+    ensures told { result ≡ read_as text.now (parse (one decimal_value low high) (drop at text.now)) }
     ensures within { IfOk result (λ r. r.value ≤ high) }
 {
     if text.len() <= at {

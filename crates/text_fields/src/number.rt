@@ -1,8 +1,9 @@
 // A number in decimal with no leading zero, and the byte that ends it.
-ghost use Rattle.std.specs.Prelude.{◌≡◌, ◌^◌, ◌≤◌, ◌<◌, length, IfOk};
+ghost use Rattle.std.specs.Prelude.{◌≡◌, ◌^◌, ◌≤◌, ◌<◌, length, drop, IfOk};
+ghost use Rattle.text_patterns.specs.Pattern.{parse};
 ghost use Rattle.text_patterns.specs.Fields.{number};
 ghost use Rattle.text_fields.specs.Digit.{decimal_value, next_digit};
-ghost use Rattle.text_fields.specs.Field.{Read};
+ghost use Rattle.text_fields.specs.Field.{Read, read_as};
 
 use crate::digit::decimal_value;
 use crate::{Field, Stop};
@@ -28,6 +29,7 @@ pub fn read_number(text: &[u8], at: usize, low: u64, high: u64, end: u8) -> Resu
     requires ordered { low ≤ high }
     requires small { high < 2 ^ 60 }
     ensures read { Read (number decimal_value low high end) text.now at result }
+    ensures told { result ≡ read_as text.now (parse (number decimal_value low high end) (drop at text.now)) }
     ensures within { IfOk result (λ r. r.value ≤ high) }
 {
     if text.len() <= at {

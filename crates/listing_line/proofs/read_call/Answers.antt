@@ -15,7 +15,7 @@ use Rattle.listing_line.proofs.read_call.Goals as goal
 pub returns-in_err-at_be : goal.returns-in_err-at_be
 returns-in_err-at_be c =
     let a = c.args in
-    let r = c.in_err-at_be.ensures in
+    let r = c.in_err-at_be.ensures.read in
     let p = err_from_is_err_and c.from_residual.result c.from_residual.ensures.1 in
     rw (p.1, p.2) (record { inside = r.inside; read = stop_be_text a.text.now a.at a.kind a.op a.a a.b a.c c.if-kind-eq4.true r })
 
@@ -24,21 +24,21 @@ returns-in_err-be c =
     let a = c.args in
     let r = c.in_err-be.ensures.read in
     let p = err_from_is_err_and c.from_residual-in_err-be.result c.from_residual-in_err-be.ensures.1 in
-    rw (p.1, p.2) (record { inside = r.inside; read = stop_be a.text.now a.at a.kind a.op a.a a.b a.c c.if-kind-eq4.true c.in_ok-at_be.ensures r })
+    rw (p.1, p.2) (record { inside = r.inside; read = stop_be a.text.now a.at a.kind a.op a.a a.b a.c c.if-kind-eq4.true c.in_ok-at_be.ensures.read r })
 
 pub returns-in_err-at_n : goal.returns-in_err-at_n
 returns-in_err-at_n c =
     let a = c.args in
-    let r = c.in_err-at_n.ensures in
+    let r = c.in_err-at_n.ensures.read in
     let p = err_from_is_err_and c.from_residual-in_err-at_n.result c.from_residual-in_err-at_n.ensures.1 in
-    rw (p.1, p.2) (record { inside = r.inside; read = stop_n_text a.text.now a.at a.kind a.op a.a a.b a.c c.if-kind-eq4.true c.in_ok-at_be.ensures c.in_ok-be.ensures.read r })
+    rw (p.1, p.2) (record { inside = r.inside; read = stop_n_text a.text.now a.at a.kind a.op a.a a.b a.c c.if-kind-eq4.true c.in_ok-at_be.ensures.read c.in_ok-be.ensures.read r })
 
 pub returns-in_err-n : goal.returns-in_err-n
 returns-in_err-n c =
     let a = c.args in
     let r = c.in_err-n.ensures.read in
     let p = err_from_is_err_and c.from_residual-in_err-n.result c.from_residual-in_err-n.ensures.1 in
-    rw (p.1, p.2) (record { inside = r.inside; read = stop_n a.text.now a.at a.kind a.op a.a a.b a.c c.if-kind-eq4.true c.in_ok-at_be.ensures c.in_ok-be.ensures.read c.in_ok-at_n.ensures r })
+    rw (p.1, p.2) (record { inside = r.inside; read = stop_n a.text.now a.at a.kind a.op a.a a.b a.c c.if-kind-eq4.true c.in_ok-at_be.ensures.read c.in_ok-be.ensures.read c.in_ok-at_n.ensures.read r })
 
 pub returns-then-kind-eq4 : goal.returns-then-kind-eq4
 returns-then-kind-eq4 c =
@@ -47,7 +47,7 @@ returns-then-kind-eq4 c =
     record {
       inside = c.in_ok-n.ensures.read.inside;
       read =
-          call_read a.text.now a.at a.kind a.op a.a a.b a.c c.if-kind-eq4.true c.in_ok-at_be.ensures c.in_ok-be.ensures.read c.in_ok-at_n.ensures c.in_ok-n.ensures.read
+          call_read a.text.now a.at a.kind a.op a.a a.b a.c c.if-kind-eq4.true c.in_ok-at_be.ensures.read c.in_ok-be.ensures.read c.in_ok-at_n.ensures.read c.in_ok-n.ensures.read
           ∙ ap (λ (o : Op). got (form_from (Extension o (eqb c.in_ok-be.be.value 1) n.value) a.a a.b a.c) (drop n.at a.text.now)) (sym c.op_of.ensures);
     }
 

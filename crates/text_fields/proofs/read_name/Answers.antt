@@ -8,6 +8,7 @@ use borrow.Author.Rules.{rules}
 use lib.ListN.{length, drop}
 use Rattle.text_patterns.specs.Pattern.{Pattern, lit, done, left, parse}
 use Rattle.text_patterns.proofs.Parsing.{lit_on, lit_stop, lit_end, lit_done}
+use Rattle.text_fields.proofs.One.{read_told}
 use Rattle.text_fields.proofs.read_name.Goals as goal
 use Rattle.text_fields.proofs.read_name.Goals.{then-text-i-via-then-text-i, then-text-i-via-else-text-i+then-word-j}
 
@@ -18,8 +19,8 @@ none_yet word text f at = rw (add-zero at)
 pub loop-j-init : goal.loop-j-init
 loop-j-init c = (omega arith, none_yet c.args.word.now c.args.text.now (done c.args.value) c.args.at)
 
-pub returns-then-text-i : goal.returns-then-text-i
-returns-then-text-i c =
+pub returns-then-text-i-clause-read : goal.returns-then-text-i-clause-read
+returns-then-text-i-clause-read c =
     let a = c.args in
     let l = c.loop-j in
     let w = a.word.now in
@@ -31,6 +32,9 @@ returns-then-text-i c =
     ] in
     record { inside = l.invariant.0; read = l.invariant.1 ∙ read }
 
+pub returns-then-text-i-clause-told : goal.returns-then-text-i-clause-told
+returns-then-text-i-clause-told c = read_told _ _ _ _ (returns-then-text-i-clause-read c)
+
 pub loop-j-preserved : goal.loop-j-preserved
 loop-j-preserved c =
     let a = c.args in
@@ -38,9 +42,9 @@ loop-j-preserved c =
     let e : a.at + (l.j + 1) ≡ a.at + l.j + 1 = omega arith in
     (omega arith, rw e (l.invariant.1 ∙ lit_on {A = ℕ} (done a.value) a.word.now a.text.now l.j (a.at + l.j) (search rules) (search rules) (search rules)))
 
-pub returns : goal.returns
+pub returns-clause-read : goal.returns-clause-read
 unfolding parse
-returns c =
+returns-clause-read c =
     let a = c.args in
     let l = c.loop-j in
     let e : l.j ≡ length a.word.now = omega arith in
@@ -48,3 +52,6 @@ returns c =
       inside = l.invariant.0;
       read = l.invariant.1 ∙ lit_done {A = ℕ} (done a.value) a.word.now a.text.now l.j (a.at + l.j) (omega arith);
     })
+
+pub returns-clause-told : goal.returns-clause-told
+returns-clause-told c = read_told _ _ _ _ (returns-clause-read c)

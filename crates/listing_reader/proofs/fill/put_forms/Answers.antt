@@ -23,7 +23,7 @@ unwrap-line-requires c =
     let l = c.loop-i in
     let w = c.requires.0 in
     let fs = l.invariant.1 in
-    on a.text.now w.forms w.ends l.place fs.0 fs.2 (omega (arith, fs.1, w.many, c.loop-i-test.true)) c.read_line.result c.read_line.ensures
+    on a.text.now w.forms w.ends l.place fs.0 fs.2 (omega (arith, fs.1, w.many, c.loop-i-test.true)) c.read_line.result c.read_line.ensures.read
 
 pub form_instruction-requires : goal.form_instruction-requires
 form_instruction-requires c =
@@ -31,7 +31,7 @@ form_instruction-requires c =
     let l = c.loop-i in
     let w = c.requires.0 in
     let fs = l.invariant.1 in
-    let read = rw c.unwrap-line.ensures at c.read_line.ensures in
+    let read = rw c.unwrap-line.ensures at c.read_line.ensures.read in
     (its_form a.text.now w.forms w.ends l.place fs.0 fs.2 (omega (arith, fs.1, w.many, c.loop-i-test.true)) read).call
 
 pub loop-i-preserved : goal.loop-i-preserved
@@ -39,7 +39,7 @@ loop-i-preserved c =
     let put = c.put_instruction in
     let made = c.form_instruction in
     let line = c.unwrap-line.result in
-    let read = rw c.unwrap-line.ensures at c.read_line.ensures in
+    let read = rw c.unwrap-line.ensures at c.read_line.ensures.read in
     let l = c.loop-i in
     let s = c in
     let w = s.requires.0 in

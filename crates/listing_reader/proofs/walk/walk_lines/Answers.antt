@@ -26,7 +26,7 @@ returns-in_err-line c =
     let l = c.loop-at in
     let i = l.invariant in
     let p = err_from_is_err_and c.from_residual.result c.from_residual.ensures.1 in
-    let r = c.in_err-line.ensures in
+    let r = c.in_err-line.ensures.read in
     rw (p.1, p.2) (r.inside, stops _ l.at i.0 i.2 (omega (arith, i.1, i.3, c.if-lines-eq1048576.false)) c.loop-at-test.true r)
 
 pub loop-at-preserved : goal.loop-at-preserved
@@ -37,7 +37,7 @@ loop-at-preserved c =
     let few : length i.0 < 1048576 = omega (arith, i.1, i.3, c.if-lines-eq1048576.false) in (
       i.0 ++ (line.value ∷ []),
       omega (arith, length-append i.0 (line.value ∷ []), i.1),
-      goes _ l.at i.0 i.2 few c.loop-at-test.true c.in_ok-line.ensures,
+      goes _ l.at i.0 i.2 few c.loop-at-test.true c.in_ok-line.ensures.read,
       omega (arith, i.1, few),
     )
 
