@@ -9,10 +9,10 @@ pub(crate) fn ended_digits<'a>(number: u64, bytes: &'a mut [u8; 21]) -> &'a [u8]
     let mut rest = number;
     for i in (0..20).rev() {
         bytes[i] = 48 + (rest % 10) as u8;
-        rest /= 10;
-        if rest == 0 {
+        if rest < 10 {
             return &bytes[i..];
         }
+        rest /= 10;
     }
     // No number has more than 20 digits, so the loop has returned.
     &bytes[..]

@@ -4,7 +4,8 @@
 
 mod decimal;
 
-ghost use Rattle.lines.specs.Line.{numbered, line_of};
+ghost use Rattle.std.specs.Prelude.{◌≡◌, ◌+◌, ◌≤◌, length};
+ghost use Rattle.lines.specs.Line.{numbered, line_of, over};
 ghost use Rattle.lines.specs.Putting.{Room, Put};
 
 use decimal::ended_digits;
@@ -16,6 +17,17 @@ pub struct Out<'a> {
     pub at: usize,
 }
 
+// Bytes from a byte of the buffer on.
+// stays: place by place, as `copy_from_slice` would have whoever links the C library find `memmove`.
+fn put_at(text: &[u8], at: usize, out: &mut [u8])
+    requires { at + length text.now ≤ length out.old }
+    ensures { out.new ≡ over out.old at text.now }
+{
+    for i in 0..text.len() {
+        out[at + i] = text[i];
+    }
+}
+
 impl Out<'_> {
     // The text, and the place behind it.
     pub fn put(&mut self, text: &[u8])
@@ -23,7 +35,7 @@ impl Out<'_> {
         ensures { Put self.old text.now self.new }
     {
         let end = self.at + text.len();
-        self.bytes[self.at..end].copy_from_slice(text);
+        put_at(text, self.at, self.bytes);
         self.at = end;
     }
 

@@ -23,8 +23,8 @@ loop-i-preserved c =
       l.invariant.3 ∙ (rw (← e) at (digit_more l.bytes (l.i - 1) l.rest (omega arith) more)),
     )
 
-pub returns-then-rest-eq0 : goal.returns-then-rest-eq0
-returns-then-rest-eq0 c =
+pub returns-then-rest-lt10 : goal.returns-then-rest-lt10
+returns-then-rest-lt10 c =
     let l = c.loop-i in
     let e : l.i ≡ suc (l.i - 1) = omega arith in
     let last : l.rest % 10 ≡ l.rest = omega arith in
